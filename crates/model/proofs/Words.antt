@@ -1,0 +1,256 @@
+-- Laws about the words of specs/Words.antt: tests, lists, and the numbers below a bound.
+-- Assumes nothing.
+use Prim.Native.Nat.{ℕ, zero, suc, _+_, _<_, _≤_, max}
+use native.Mathlib.Omega.{arith}
+use native.Mathlib.Numerals.{add-one}
+use mathlib.Core.Path.{_≡_, refl, sym, _∙_, ap}
+use mathlib.Core.Bool.{Bool, true, false, _&&_, _||_, not, or-true}
+use mathlib.Core.List.{List, [], _∷_, List·Memᴰ, List·Memᴰ·head, List·Memᴰ·tail, List·Memᴰ·not-nil, List·Memᴰ·cases-cons}
+use mathlib.Core.Logic.{_⊎_, inl, inr}
+use mathlib.Core.Option.{Option, none, some}
+use lib.Dec.{ltb}
+use lib.ListN.{length, getD}
+use borrow.Author.Tests.{ltb-true, ltb-false, not-true, not-false}
+use Rattle.model.specs.Words.{choose, maybe, kept, keep, every, some-in, listed, each, some-below, least, greatest}
+
+-- two constructors that meet: `clash (cc)` reads the hypotheses
+pub clash : _≡_ {A = ℕ} 0 1 → ⊥
+clash z = omega arith
+
+pub true-not-false : {a : Bool} → a ≡ true → a ≡ false → ⊥
+true-not-false {a} t f = clash (cc)
+
+-- two tests are equal if each follows from the other
+pub both-ways : (a b : Bool) → (a ≡ true → b ≡ true) → (b ≡ true → a ≡ true) → a ≡ b
+both-ways true b f g = sym (f refl)
+both-ways false true f g = g refl
+both-ways false false f g = refl
+
+pub and-left : (a b : Bool) → (a && b) ≡ true → a ≡ true
+and-left true b h = refl
+and-left false b h = h
+
+pub and-right : (a b : Bool) → (a && b) ≡ true → b ≡ true
+and-right true b h = h
+and-right false b h = absurd (clash (cc))
+
+pub and-both : (a b : Bool) → a ≡ true → b ≡ true → (a && b) ≡ true
+and-both a b p q = rw (p, q)
+
+pub or-either : (a b : Bool) → (a || b) ≡ true → (a ≡ true) ⊎ (b ≡ true)
+or-either true b h = inl refl
+or-either false b h = inr h
+
+pub or-first : (a b : Bool) → a ≡ true → (a || b) ≡ true
+or-first a b p = rw p
+
+pub or-second : (a b : Bool) → b ≡ true → (a || b) ≡ true
+or-second a b p = rw (p, or-true)
+
+pub not-not-true : (a : Bool) → (a ≡ true → ⊥) → a ≡ false
+not-not-true true h = absurd (h refl)
+not-not-true false h = refl
+
+pub lt-or-le : (a b : ℕ) → (a < b) ⊎ (b ≤ a)
+lt-or-le a b = go (ltb a b) refl
+  where
+    go : (t : Bool) → ltb a b ≡ t → (a < b) ⊎ (b ≤ a)
+    go true e = inl (ltb-true a b e)
+    go false e = inr (ltb-false a b e)
+
+-- what holds below n and at n holds below n + 1
+pub below-next {ℓ} : (P : ℕ → Type ℓ) (n : ℕ) → ((j : ℕ) → j < n → P j) → P n → (j : ℕ) → j < suc n → P j
+below-next P n h p j l = go (lt-or-le j n)
+  where
+    go : (j < n) ⊎ (n ≤ j) → P j
+    go (inl b) = h j b
+    go (inr e) = let e : n ≡ j = omega arith in rw (← e) p
+
+pub each-intro : (n : ℕ) (f : ℕ → Bool) → ((j : ℕ) → j < n → f j ≡ true) → each n f ≡ true
+unfolding each
+each-intro zero f h = refl
+each-intro (suc n) f h = and-both (each n f) (f n) (each-intro n f (λ j l. h j (omega arith))) (h n (omega arith))
+
+pub each-elim : (n : ℕ) (f : ℕ → Bool) → each n f ≡ true → (j : ℕ) → j < n → f j ≡ true
+unfolding each
+each-elim zero f h j l = absurd (omega arith)
+each-elim (suc n) f h j l = below-next (λ j. f j ≡ true) n (each-elim n f (and-left (each n f) (f n) h)) (and-right (each n f) (f n) h) j l
+
+-- a loop over `each`: before it, after a turn that passed, after all turns, and after one that did not pass
+pub each-none : (f : ℕ → Bool) → each 0 f ≡ true
+unfolding each
+each-none f = refl
+
+pub each-so-far : (i : ℕ) (f : ℕ → Bool) → each i f ≡ true → f i ≡ true → each (i + 1) f ≡ true
+unfolding each
+each-so-far i f h t = rw add-one (and-both (each i f) (f i) h t)
+
+pub each-all : (n i : ℕ) (f : ℕ → Bool) → i ≤ n → n ≤ i → each i f ≡ true → each n f ≡ true
+each-all n i f l m h = let e : n ≡ i = omega arith in rw e h
+
+pub each-broken : (n i : ℕ) (f : ℕ → Bool) → i < n → f i ≡ false → each n f ≡ false
+each-broken n i f l h = not-not-true (each n f) (λ e. true-not-false (each-elim n f e i l) h)
+
+-- what a turn of such a loop learns from `if !r`, where r is the test
+pub passed : {r t : Bool} → r ≡ t → not r ≡ false → t ≡ true
+passed {r} e h = sym e ∙ not-false r h
+
+pub not-passed : {r t : Bool} → r ≡ t → not r ≡ true → t ≡ false
+not-passed {r} e h = sym e ∙ not-true r h
+
+pub some-below-intro : (n : ℕ) (f : ℕ → Bool) (j : ℕ) → j < n → f j ≡ true → some-below n f ≡ true
+unfolding some-below
+some-below-intro zero f j l t = absurd (omega arith)
+some-below-intro (suc n) f j l t = go (lt-or-le j n) (λ b. some-below-intro n f j b t)
+  where
+    go : (j < n) ⊎ (n ≤ j) → (j < n → some-below n f ≡ true) → (some-below n f || f n) ≡ true
+    go (inl b) h = or-first (some-below n f) (f n) (h b)
+    go (inr b) h = let e : j ≡ n = omega arith in or-second (some-below n f) (f n) (rw e at t)
+
+pub some-below-elim : (n : ℕ) (f : ℕ → Bool) → some-below n f ≡ true → (j : ℕ) × (j < n) × (f j ≡ true)
+unfolding some-below
+some-below-elim zero f h = absurd (clash (cc))
+some-below-elim (suc n) f h = go (or-either (some-below n f) (f n) h) (some-below-elim n f)
+  where
+    go : (some-below n f ≡ true) ⊎ (f n ≡ true) → (some-below n f ≡ true → (j : ℕ) × (j < n) × (f j ≡ true)) → (j : ℕ) × (j < suc n) × (f j ≡ true)
+    go (inl a) r = let (j, l, t) = r a in (j, (omega arith), t)
+    go (inr b) r = (n, (omega arith), b)
+
+-- what the smallest number below n that passes f is, and when there is none
+pub Least : ℕ → (ℕ → Bool) → Option ℕ → Type 0
+Least n f none = (j : ℕ) → j < n → f j ≡ false
+Least n f (some k) = (k < n) × (f k ≡ true) × ((j : ℕ) → j < k → f j ≡ false)
+
+pub least-is : (n : ℕ) (f : ℕ → Bool) → Least n f (least n f)
+unfolding least Least
+least-is zero f = λ j l. absurd (omega arith)
+least-is (suc n) f = go (least n f) (least-is n f)
+  where
+    at-n : (b : Bool) → f n ≡ b → ((j : ℕ) → j < n → f j ≡ false) → Least (suc n) f (choose b (λ _. some n) (λ _. none))
+    at-n true e r = ((omega arith), e, r)
+    at-n false e r = below-next (λ j. f j ≡ false) n r e
+
+    go : (o : Option ℕ) → Least n f o → Least (suc n) f (maybe o (λ _. choose (f n) (λ _. some n) (λ _. none)) some)
+    go none r = at-n (f n) refl r
+    go (some k) r = ((let (l, t, s) = r in omega arith), r .1, r .2)
+
+pub least-some : (n : ℕ) (f : ℕ → Bool) (k : ℕ) → least n f ≡ some k → (k < n) × (f k ≡ true) × ((j : ℕ) → j < k → f j ≡ false)
+unfolding Least
+least-some n f k e = rw e at (least-is n f)
+
+pub least-none : (n : ℕ) (f : ℕ → Bool) → least n f ≡ none → (j : ℕ) → j < n → f j ≡ false
+unfolding Least
+least-none n f e = rw e at (least-is n f)
+
+pub greatest-above : (n : ℕ) (f : ℕ → ℕ) (j : ℕ) → j < n → f j ≤ greatest n f
+unfolding greatest
+greatest-above zero f j l = absurd (omega arith)
+greatest-above (suc n) f j l =
+    below-next (λ j. f j ≤ max (greatest n f) (f n)) n
+    (λ j l. let h = greatest-above n f j l in omega arith)
+    (omega arith)
+    j
+    l
+
+pub greatest-at : (n : ℕ) (f : ℕ → ℕ) → 0 < n → (j : ℕ) × (j < n) × (f j ≡ greatest n f)
+unfolding greatest
+greatest-at zero f l = absurd (omega arith)
+greatest-at (suc zero) f l = (0, (omega arith), (omega arith))
+greatest-at (suc (suc n)) f l = go (lt-or-le (f (suc n)) (greatest (suc n) f)) (greatest-at (suc n) f (omega arith))
+  where
+    go : (f (suc n) < greatest (suc n) f) ⊎ (greatest (suc n) f ≤ f (suc n)) → (j : ℕ) × (j < suc n) × (f j ≡ greatest (suc n) f)
+        → (j : ℕ) × (j < suc (suc n)) × (f j ≡ max (greatest (suc n) f) (f (suc n)))
+    go (inl b) (j, k, e) = (j, (omega arith), (omega arith))
+    go (inr b) (j, k, e) = (suc n, (omega arith), (omega arith))
+
+pub length-listed {ℓ} : {A : Type ℓ} (i n : ℕ) (f : ℕ → A) → length (listed i n f) ≡ n
+unfolding listed
+length-listed i zero f = refl
+length-listed i (suc n) f = ap suc (length-listed (suc i) n f)
+
+-- entry j of f i, f (i + 1), ..
+pub getD-listed {ℓ} : {A : Type ℓ} (i n : ℕ) (f : ℕ → A) (d : A) (j a : ℕ) → j < n → a ≡ i + j → getD (listed i n f) j d ≡ f a
+unfolding listed
+getD-listed i zero f d j a l e = absurd (omega arith)
+getD-listed i (suc n) f d zero a l e = ap f (let h : i ≡ a = omega arith in h)
+getD-listed i (suc n) f d (suc j) a l e = getD-listed (suc i) n f d j a (omega arith) (omega arith)
+
+pub getD-past {ℓ} : {A : Type ℓ} (i n : ℕ) (f : ℕ → A) (d : A) (j : ℕ) → n ≤ j → getD (listed i n f) j d ≡ d
+unfolding listed
+getD-past i zero f d zero l = refl
+getD-past i zero f d (suc j) l = refl
+getD-past i (suc n) f d zero l = absurd (omega arith)
+getD-past i (suc n) f d (suc j) l = getD-past (suc i) n f d j (omega arith)
+
+pub listed-mem {ℓ} : {A : Type ℓ} (i n : ℕ) (f : ℕ → A) (j a : ℕ) → j < n → a ≡ i + j → List·Memᴰ (f a) (listed i n f)
+unfolding listed
+listed-mem i zero f j a l e = absurd (omega arith)
+listed-mem i (suc n) f zero a l e = List·Memᴰ·head (ap f (let h : a ≡ i = omega arith in h))
+listed-mem i (suc n) f (suc j) a l e = List·Memᴰ·tail (listed-mem (suc i) n f j a (omega arith) (omega arith))
+
+pub mem-listed {ℓ} : {A : Type ℓ} (i n : ℕ) (f : ℕ → A) (x : A) → List·Memᴰ x (listed i n f) → (a : ℕ) × (i ≤ a) × (a < i + n) × (x ≡ f a)
+unfolding listed
+mem-listed i zero f x m = absurd (List·Memᴰ·not-nil m)
+mem-listed i (suc n) f x m = go (List·Memᴰ·cases-cons m) (mem-listed (suc i) n f x)
+  where
+    go : (x ≡ f i) ⊎ List·Memᴰ x (listed (suc i) n f) → (List·Memᴰ x (listed (suc i) n f) → (a : ℕ) × (suc i ≤ a) × (a < suc i + n) × (x ≡ f a))
+        → (a : ℕ) × (i ≤ a) × (a < i + suc n) × (x ≡ f a)
+    go (inl e) r = (i, (omega arith), (omega arith), e)
+    go (inr t) r = let (a, l, u, e) = r t in (a, (omega arith), (omega arith), e)
+
+module _ {ℓ} {A : Type ℓ} (f : A → Bool) where
+  pub every-elim : (xs : List A) → every f xs ≡ true → (x : A) → List·Memᴰ x xs → f x ≡ true
+  unfolding every
+  every-elim [] h x m = absurd (List·Memᴰ·not-nil m)
+  every-elim (y ∷ ys) h x m = go (List·Memᴰ·cases-cons m) (every-elim ys (and-right (f y) (every f ys) h) x)
+    where
+      go : (x ≡ y) ⊎ List·Memᴰ x ys → (List·Memᴰ x ys → f x ≡ true) → f x ≡ true
+      go (inl e) r = rw e (and-left (f y) (every f ys) h)
+      go (inr t) r = r t
+
+  pub every-intro : (xs : List A) → ((x : A) → List·Memᴰ x xs → f x ≡ true) → every f xs ≡ true
+  unfolding every
+  every-intro [] h = refl
+  every-intro (y ∷ ys) h = and-both (f y) (every f ys) (h y (List·Memᴰ·head refl)) (every-intro ys (λ x m. h x (List·Memᴰ·tail m)))
+
+  pub some-in-elim : (xs : List A) → some-in f xs ≡ true → (x : A) × List·Memᴰ x xs × (f x ≡ true)
+  unfolding some-in
+  some-in-elim [] h = absurd (clash (cc))
+  some-in-elim (y ∷ ys) h = go (or-either (f y) (some-in f ys) h) (some-in-elim ys)
+    where
+      go : (f y ≡ true) ⊎ (some-in f ys ≡ true) → (some-in f ys ≡ true → (x : A) × List·Memᴰ x ys × (f x ≡ true)) → (x : A) × List·Memᴰ x (y ∷ ys) × (f x ≡ true)
+      go (inl t) r = (y, List·Memᴰ·head refl, t)
+      go (inr s) r = let (x, m, t) = r s in (x, List·Memᴰ·tail m, t)
+
+  pub some-in-intro : (xs : List A) (x : A) → List·Memᴰ x xs → f x ≡ true → some-in f xs ≡ true
+  unfolding some-in
+  some-in-intro [] x m t = absurd (List·Memᴰ·not-nil m)
+  some-in-intro (y ∷ ys) x m t = go (List·Memᴰ·cases-cons m) (λ n. some-in-intro ys x n t)
+    where
+      go : (x ≡ y) ⊎ List·Memᴰ x ys → (List·Memᴰ x ys → some-in f ys ≡ true) → (f y || some-in f ys) ≡ true
+      go (inl e) r = or-first (f y) (some-in f ys) (rw e at t)
+      go (inr n) r = or-second (f y) (some-in f ys) (r n)
+
+  pub keep-mem : (xs : List A) (x : A) → List·Memᴰ x (keep f xs) → List·Memᴰ x xs × (f x ≡ true)
+  unfolding keep
+  keep-mem [] x m = absurd (List·Memᴰ·not-nil m)
+  keep-mem (y ∷ ys) x m = go (f y) refl m (keep-mem ys x)
+    where
+      go : (b : Bool) → f y ≡ b → List·Memᴰ x (kept b y (keep f ys)) → (List·Memᴰ x (keep f ys) → List·Memᴰ x ys × (f x ≡ true)) → List·Memᴰ x (y ∷ ys) × (f x ≡ true)
+      go false e n r = (List·Memᴰ·tail (r n .0), r n .1)
+      go true e n r = at (List·Memᴰ·cases-cons n)
+        where
+          at : (x ≡ y) ⊎ List·Memᴰ x (keep f ys) → List·Memᴰ x (y ∷ ys) × (f x ≡ true)
+          at (inl p) = (List·Memᴰ·head p, (rw p e))
+          at (inr q) = (List·Memᴰ·tail (r q .0), r q .1)
+
+  pub mem-keep : (xs : List A) (x : A) → List·Memᴰ x xs → f x ≡ true → List·Memᴰ x (keep f xs)
+  unfolding keep
+  mem-keep [] x m t = absurd (List·Memᴰ·not-nil m)
+  mem-keep (y ∷ ys) x m t = go (f y) refl (List·Memᴰ·cases-cons m) (λ n. mem-keep ys x n t)
+    where
+      go : (b : Bool) → f y ≡ b → (x ≡ y) ⊎ List·Memᴰ x ys → (List·Memᴰ x ys → List·Memᴰ x (keep f ys)) → List·Memᴰ x (kept b y (keep f ys))
+      go true e (inl p) r = List·Memᴰ·head p
+      go true e (inr n) r = List·Memᴰ·tail (r n)
+      go false e (inl p) r = let t′ : f y ≡ true = rw p at t in absurd (true-not-false t′ e)
+      go false e (inr n) r = r n

@@ -1,0 +1,9 @@
+pub mod Words
+pub mod Tree
+pub mod Guards
+pub mod Moves
+pub mod Node
+pub mod Commands
+pub mod Crews
+pub mod Sound
+pub mod Refusals
