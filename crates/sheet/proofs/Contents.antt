@@ -1,0 +1,176 @@
+-- What right contents say: where the bodies lie, that each is a whole number of records, and how many it may have.
+-- Assumes nothing.
+use Prim.Native.Nat.{ℕ, zero, suc, _+_, _*_, _/_, _%_, _-_, _<_, _≤_}
+use native.Mathlib.Omega.{arith}
+use native.Mathlib.Nat.{div-add-mod'}
+use mathlib.Core.Path.{_≡_}
+use mathlib.Core.Bool.{Bool, true, _&&_}
+use mathlib.Core.List.{List}
+use lib.Dec.{eqb, leb}
+use lib.ListN.{length, drop, length-take, length-drop}
+use borrow.Author.Tests.{eqb-true, leb-true}
+use Rattle.model.specs.Words.{each}
+use Rattle.model.proofs.Words.{and-left, and-right, each-elim}
+use Rattle.sheet.specs.Bytes.{Bytes}
+use Rattle.sheet.specs.Contents.{record-bytes, fewest, most, start, size, body, length-right, bodies-follow, count-right, counts-in-range, contents-right, bodies}
+use Rattle.sheet.specs.Clauses.{in-fours, in-eights}
+use Rattle.sheet.proofs.Bytes.{take-bytes, drop-bytes}
+
+-- a body of a byte string is a byte string
+pub body-bytes : (b : List ℕ) → Bytes b → (k : ℕ) → Bytes (body b k)
+unfolding body
+body-bytes b h k = take-bytes (size b k) (drop (start b k) b) (drop-bytes (start b k) b h)
+
+-- a sheet of the right length has at least 24 bytes
+pub length-least : (b : List ℕ) → length-right b ≡ true → 24 ≤ length b
+unfolding length-right
+length-least b h = leb-true 24 (length b) (and-left (leb 24 (length b)) (leb (length b) 18616) h)
+
+-- and at most 18,616
+pub length-most : (b : List ℕ) → length-right b ≡ true → length b ≤ 18616
+unfolding length-right
+length-most b h = leb-true (length b) 18616 (and-right (leb 24 (length b)) (leb (length b) 18616) h)
+
+-- names for the parts of the tests, to take them apart by
+abbrev each-follows : List ℕ → Bool
+each-follows b = each 5 (λ k. eqb (start b (k + 1)) (start b k + size b k))
+
+abbrev ends-right : List ℕ → Bool
+ends-right b = eqb (start b 5 + size b 5) (length b)
+
+abbrev enough : List ℕ → ℕ → Bool
+enough b k = leb (fewest k) (size b k / record-bytes k)
+
+abbrev not-many : List ℕ → ℕ → Bool
+not-many b k = leb (size b k / record-bytes k) (most k)
+
+module _ (b : List ℕ) (h : contents-right b ≡ true) where
+  -- the first half of the test
+  follow : bodies-follow b ≡ true
+  unfolding contents-right
+  follow = and-left (bodies-follow b) (counts-in-range b) h
+
+  -- the half about the starts, but for the first
+  starts : (each-follows b && ends-right b) ≡ true
+  unfolding bodies-follow
+  starts = and-right (eqb (start b 0) 24) (each-follows b && ends-right b) follow
+
+  -- the first body starts at byte 24
+  pub first-start : start b 0 ≡ 24
+  unfolding bodies-follow
+  first-start = eqb-true (start b 0) 24 (and-left (eqb (start b 0) 24) (each-follows b && ends-right b) follow)
+
+  -- each next one where the one before ended
+  pub next-start : (k : ℕ) → k < 5 → start b (k + 1) ≡ start b k + size b k
+  next-start k l =
+      eqb-true (start b (k + 1)) (start b k + size b k)
+      (each-elim 5 (λ k. eqb (start b (k + 1)) (start b k + size b k))
+      (and-left (each-follows b) (ends-right b) starts)
+      k l)
+
+  -- the last ends with the sheet
+  pub last-end : start b 5 + size b 5 ≡ length b
+  last-end =
+      eqb-true (start b 5 + size b 5) (length b)
+      (and-right (each-follows b) (ends-right b) starts)
+
+  -- counted down from the last body
+  inside-from : (d k : ℕ) → k + d ≡ 5 → start b k + size b k ≤ length b
+  inside-from zero k e = let k5 : k ≡ 5 = omega arith in rw k5 (let z : start b 5 + size b 5 ≤ length b = omega (arith, last-end) in z)
+  inside-from (suc d) k e = omega (arith, next-start k (omega arith), inside-from d (k + 1) (omega arith))
+
+  -- every body lies inside the sheet
+  pub body-inside : (k : ℕ) → k < 6 → start b k + size b k ≤ length b
+  body-inside k l = inside-from (5 - k) k (omega arith)
+
+  -- so that it is as long as the contents say
+  pub body-length : (k : ℕ) → k < 6 → length (body b k) ≡ size b k
+  unfolding body
+  body-length k l =
+      omega (arith, body-inside k l, length-take (size b k) (drop (start b k) b), length-drop (start b k) b)
+
+  -- the second half of the test, at body k
+  count : (k : ℕ) → k < 6 → count-right b k ≡ true
+  unfolding contents-right counts-in-range
+  count = each-elim 6 (count-right b) (and-right (bodies-follow b) (counts-in-range b) h)
+
+  -- its record count is in the table's range
+  range : (k : ℕ) → k < 6 → (enough b k && not-many b k) ≡ true
+  range k l = and-right (eqb (size b k % record-bytes k) 0) (enough b k && not-many b k) (count k l)
+
+  -- its size is a whole number of records
+  pub size-whole : (k : ℕ) → k < 6 → size b k % record-bytes k ≡ 0
+  size-whole k l =
+      eqb-true (size b k % record-bytes k) 0
+      (and-left (eqb (size b k % record-bytes k) 0) (enough b k && not-many b k) (count k l))
+
+  -- it has at least the table's fewest records
+  pub body-fewest : (k : ℕ) → k < 6 → fewest k ≤ length (body b k) / record-bytes k
+  body-fewest k l =
+      rw (body-length k l)
+      (leb-true (fewest k) (size b k / record-bytes k)
+      (and-left (enough b k) (not-many b k) (range k l)))
+
+  -- and at most the table's most
+  pub body-most : (k : ℕ) → k < 6 → length (body b k) / record-bytes k ≤ most k
+  body-most k l =
+      rw (body-length k l)
+      (leb-true (size b k / record-bytes k) (most k)
+      (and-right (enough b k) (not-many b k) (range k l)))
+
+  -- it is as long as its records together
+  pub body-whole : (k : ℕ) → k < 6 → length (body b k) ≡ length (body b k) / record-bytes k * record-bytes k
+  body-whole k l = rw (body-length k l) (let z = div-add-mod' (size b k) (record-bytes k) in omega (arith, size-whole k l))
+
+  -- the same of each of the six bodies, by name: its length, and the table's bounds of its record count
+  pub classes-length : length (bodies b .classes) ≡ in-fours (bodies b .classes) * 4
+  unfolding bodies
+  classes-length = body-whole 0 (omega arith)
+
+  pub class-count-most : in-fours (bodies b .classes) ≤ 8
+  unfolding bodies
+  class-count-most = body-most 0 (omega arith)
+
+  pub states-length : length (bodies b .states) ≡ in-fours (bodies b .states) * 4
+  unfolding bodies
+  states-length = body-whole 1 (omega arith)
+
+  pub state-count-least : 1 ≤ in-fours (bodies b .states)
+  unfolding bodies
+  state-count-least = body-fewest 1 (omega arith)
+
+  pub state-count-most : in-fours (bodies b .states) ≤ 32
+  unfolding bodies
+  state-count-most = body-most 1 (omega arith)
+
+  pub whens-length : length (bodies b .whens) ≡ in-fours (bodies b .whens) * 4
+  unfolding bodies
+  whens-length = body-whole 2 (omega arith)
+
+  pub all-whens-most : in-fours (bodies b .whens) ≤ 256
+  unfolding bodies
+  all-whens-most = body-most 2 (omega arith)
+
+  pub guards-length : length (bodies b .guards) ≡ in-eights (bodies b .guards) * 8
+  unfolding bodies
+  guards-length = body-whole 3 (omega arith)
+
+  pub all-guards-most : in-eights (bodies b .guards) ≤ 1024
+  unfolding bodies
+  all-guards-most = body-most 3 (omega arith)
+
+  pub actions-length : length (bodies b .actions) ≡ in-fours (bodies b .actions) * 4
+  unfolding bodies
+  actions-length = body-whole 4 (omega arith)
+
+  pub all-actions-most : in-fours (bodies b .actions) ≤ 256
+  unfolding bodies
+  all-actions-most = body-most 4 (omega arith)
+
+  pub statements-length : length (bodies b .statements) ≡ in-eights (bodies b .statements) * 8
+  unfolding bodies
+  statements-length = body-whole 5 (omega arith)
+
+  pub all-statements-most : in-eights (bodies b .statements) ≤ 1024
+  unfolding bodies
+  all-statements-most = body-most 5 (omega arith)

@@ -1,0 +1,12 @@
+-- `state_count` counts the records of body 1, which an accepted sheet has few of.
+-- Assumes nothing.
+use Rattle.sheet.proofs.ReaderLaws.{states-few}
+use borrow.Author.Needs.{needs}
+use Rattle.sheet.proofs.readers.state_count.Statement.{statement}
+use Rattle.sheet.proofs.readers.state_count.Tie as tie
+
+returns : tie.Need-returns
+returns c = let a = c .before .before .args in states-few (a .sheet .now) (a .p) (c .before .before .pre) (c .body-of .result .now) (c .body-of .ensures)
+
+pub state-count-spec : {M : Type 1} → statement M
+state-count-spec = tie.close (tie.spec (λ c κs. search needs) returns)

@@ -1,0 +1,27 @@
+-- Numbers in a byte string: unsigned, low byte first. Past the end every byte is 0.
+-- Assumes nothing.
+use Prim.Native.Nat.{ℕ, zero, suc, _+_, _*_, _<_}
+use mathlib.Core.List.{List, [], _∷_}
+use lib.ListN.{getD, take, drop}
+
+-- a byte string: each number is below 256
+abbrev pub Bytes : List ℕ → Type 0
+Bytes b = (i : ℕ) → getD b i 0 < 256
+
+abbrev pub byte : List ℕ → ℕ → ℕ
+byte b at = getD b at 0
+
+abbrev pub u16 : List ℕ → ℕ → ℕ
+u16 b at = byte b at + 256 * byte b (at + 1)
+
+abbrev pub u32 : List ℕ → ℕ → ℕ
+u32 b at = byte b at + 256 * byte b (at + 1) + 65536 * byte b (at + 2) + 16777216 * byte b (at + 3)
+
+-- record i of a string of records of 8 bytes
+unfoldable pub record-at : List ℕ → ℕ → List ℕ
+record-at b i = take 8 (drop (i * 8) b)
+
+-- the first n records of 8 bytes
+unfoldable pub records : ℕ → List ℕ → List (List ℕ)
+records zero b = []
+records (suc n) b = take 8 b ∷ records n (drop 8 b)

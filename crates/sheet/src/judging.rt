@@ -1,0 +1,180 @@
+// The judge: every byte string is accepted, with the places of its six bodies, or gets the number of the first rule that it breaks.
+use crate::checks::actions_ok;
+use crate::checks::classes_ok;
+use crate::checks::counts_ok;
+use crate::checks::guards_ok;
+use crate::checks::statements_ok;
+use crate::checks::targets_ok;
+use crate::guards::records_ok;
+use crate::words::u16_at;
+use model::Refusal;
+ghost use mathlib.Core.Path.{_≡_};
+ghost use Prim.Native.Nat.{_+_, _*_, _<_, _≤_};
+ghost use lib.ListN.{length};
+ghost use Rattle.sheet.specs.Contents.{start, size, record-bytes, fewest, most, count-right, bodies-follow, counts-in-range, contents-right};
+ghost use Rattle.sheet.specs.Rules.{refusal-in};
+ghost use Rattle.sheet.specs.Judgement.{places-of, judged-numbers, verdict-numbers, judgement, together, ShortBodies};
+
+// Where each of the six bodies starts; each ends where the next starts, and the last ends with the sheet.
+pub struct Places {
+    pub classes: usize,
+    pub states: usize,
+    pub whens: usize,
+    pub guards: usize,
+    pub actions: usize,
+    pub statements: usize,
+}
+
+// What the judge answers.
+pub enum Judged {
+    Accepted(Places),
+    Refused(Refusal),
+}
+
+const RECORD_BYTES: [usize; 6] = [4, 4, 4, 8, 4, 8];
+
+const FEWEST: [usize; 6] = [0, 1, 0, 0, 0, 0];
+
+const MOST: [usize; 6] = [8, 32, 256, 1024, 256, 1024];
+
+// Where body k starts, as the contents say.
+fn start(sheet: &[u8], k: usize) -> usize
+    requires { ⌜ k < 6 ⌝ }
+    ensures { λ r. ⌜ (r ≡ start (now (sheet .entry)) k) × (r < 65536) ⌝ }
+{
+    u16_at(sheet, k * 4)
+}
+
+// The length of body k in bytes, as the contents say.
+fn size(sheet: &[u8], k: usize) -> usize
+    requires { ⌜ k < 6 ⌝ }
+    ensures { λ r. ⌜ (r ≡ size (now (sheet .entry)) k) × (r < 65536) ⌝ }
+{
+    u16_at(sheet, k * 4 + 2)
+}
+
+// Body k is a whole number of records, in the table's range.
+fn count_ok(sheet: &[u8], k: usize) -> bool
+    requires { ⌜ k < 6 ⌝ }
+    ensures { λ r. ⌜ r ≡ count-right (now (sheet .entry)) k ⌝ }
+{
+    let bytes = RECORD_BYTES[k];
+    let least = FEWEST[k];
+    let largest = MOST[k];
+    let n = size(sheet, k);
+    (n % bytes == 0) & ((least <= n / bytes) & (n / bytes <= largest))
+}
+
+// Every body is a whole number of records, in the table's range.
+fn counts_in_range(sheet: &[u8]) -> bool
+    ensures { λ r. ⌜ r ≡ counts-in-range (now (sheet .entry)) ⌝ }
+{
+    let mut k = 0;
+    while k < 6 {
+        if !count_ok(sheet, k) {
+            return false;
+        }
+        k = k + 1;
+    }
+    true
+}
+
+// The first body starts at byte 24, each next one where the one before ended, the last ends with the sheet.
+fn bodies_follow(sheet: &[u8]) -> bool
+    ensures { λ r. ⌜ r ≡ bodies-follow (now (sheet .entry)) ⌝ }
+{
+    let end = start(sheet, 5) + size(sheet, 5);
+    if (start(sheet, 0) != 24) | (end != sheet.len()) {
+        return false;
+    }
+    let mut k = 0;
+    while k < 5 {
+        if start(sheet, k + 1) != start(sheet, k) + size(sheet, k) {
+            return false;
+        }
+        k = k + 1;
+    }
+    true
+}
+
+// The places that the contents name.
+fn read_places(sheet: &[u8]) -> Places
+    ensures { λ r. ⌜ r ≡ places-of (now (sheet .entry)) ⌝ }
+{
+    Places {
+        classes: start(sheet, 0),
+        states: start(sheet, 1),
+        whens: start(sheet, 2),
+        guards: start(sheet, 3),
+        actions: start(sheet, 4),
+        statements: start(sheet, 5),
+    }
+}
+
+// The rules 3 to 9, in their order, each on the bodies that it speaks of.
+fn judge_bodies(
+    classes: &[u8],
+    states: &[u8],
+    whens: &[u8],
+    guards: &[u8],
+    actions: &[u8],
+    statements: &[u8],
+    places: Places,
+) -> Judged
+    requires { ⌜ ShortBodies (now classes) (now states) (now whens) (now actions) ⌝ }
+    ensures { λ r. ⌜ judged-numbers r ≡ verdict-numbers (refusal-in (together (now (classes .entry)) (now (states .entry)) (now (whens .entry)) (now (guards .entry)) (now (actions .entry)) (now (statements .entry)))) places ⌝ }
+{
+    let class_count = classes.len() / 4;
+    let state_count = states.len() / 4;
+    if !classes_ok(classes) {
+        return Judged::Refused(Refusal::EmptyNameSet);
+    }
+    if !counts_ok(states, whens.len() / 4, actions.len() / 4) {
+        return Judged::Refused(Refusal::ClauseCounts);
+    }
+    if !records_ok(class_count, guards) {
+        return Judged::Refused(Refusal::GuardLayout);
+    }
+    if !guards_ok(guards, whens) {
+        return Judged::Refused(Refusal::GuardReach);
+    }
+    if !targets_ok(states, whens) {
+        return Judged::Refused(Refusal::Target);
+    }
+    if !actions_ok(states, actions, statements.len() / 8) {
+        return Judged::Refused(Refusal::ActionClause);
+    }
+    if !statements_ok(class_count, state_count, guards, actions, statements) {
+        return Judged::Refused(Refusal::Statement);
+    }
+    Judged::Accepted(places)
+}
+
+// The judgement of a byte string offered as a sheet: each body is handed on as a part that starts in the sheet's middle.
+pub fn judge(sheet: &[u8]) -> Judged
+    ensures { λ r. ⌜ judged-numbers r ≡ judgement (now (sheet .entry)) ⌝ }
+{
+    let end = sheet.len();
+    if (end < 24) | (18616 < end) {
+        return Judged::Refused(Refusal::SheetLength);
+    }
+    if !(bodies_follow(sheet) & counts_in_range(sheet)) {
+        return Judged::Refused(Refusal::Contents);
+    }
+    let p = read_places(sheet);
+    let classes = p.classes;
+    let states = p.states;
+    let whens = p.whens;
+    let guards = p.guards;
+    let actions = p.actions;
+    let statements = p.statements;
+    judge_bodies(
+        &sheet[classes..states],
+        &sheet[states..whens],
+        &sheet[whens..guards],
+        &sheet[guards..actions],
+        &sheet[actions..statements],
+        &sheet[statements..],
+        p,
+    )
+}
