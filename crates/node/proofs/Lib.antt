@@ -1,0 +1,12 @@
+pub mod BitLaws
+pub mod CrewLaws
+pub mod ValueLaws
+pub mod Agree
+pub mod ListLaws
+pub mod ProbeLaws
+pub mod PhaseLaws
+pub mod SendLaws
+pub mod ReadLaws
+pub mod RunLaws
+pub mod ClauseLaws
+pub mod HandleLaws

@@ -1,0 +1,216 @@
+-- Laws about specs/Probing.antt: the first clause whose guard is true on the sets is what the tree's probe finds, and what follows from it.
+-- Assumes nothing.
+use Prim.Native.Nat.{ℕ, zero, suc, _+_, _*_, _<_, _≤_}
+use native.Mathlib.Omega.{arith}
+use mathlib.Core.Path.{_≡_, refl, sym, _∙_, ap, subst}
+use mathlib.Core.Bool.{Bool, true, false}
+use mathlib.Core.List.{List}
+use mathlib.Core.Logic.{_⊎_, inl, inr}
+use mathlib.Core.Option.{Option, none, some}
+use lib.ListN.{length, getD, List·getD-eq-default}
+use Rattle.model.specs.Words.{maybe, least, listed}
+use Rattle.model.specs.Tree.{Child, everyone, any-in, atom, run, stay, When, Action, State, no-action}
+use Rattle.model.specs.Guards.{holds}
+use Rattle.model.specs.Node.{state-of, nothing, found, first-true, probe, command-of, turn-for, turn}
+use Rattle.model.specs.Sound.{ReferrerRight}
+use Rattle.model.proofs.Words.{true-not-false, lt-or-le, below-next, least-some, least-none}
+use Rattle.model.proofs.Phase.{getD-mem, probe-found}
+use Rattle.sheet.specs.Bytes.{byte}
+use Rattle.sheet.specs.Contents.{body, bodies}
+use Rattle.sheet.specs.Clauses.{in-fours, when-count, action-count, first-action, guard-place, referrer-number, target, action-command}
+use Rattle.sheet.specs.GuardRecords.{guard-from}
+use Rattle.sheet.specs.Judgement.{Stands}
+use Rattle.sheet.specs.Reading.{referrer-of, when-in, action-in, state-in, class-in, class-of}
+use Rattle.sheet.specs.Referrers.{reads-as}
+use Rattle.sheet.specs.Runs.{RunIs}
+use Rattle.sheet.specs.declared.judging.Places.{Places}
+use Rattle.sheet.specs.declared.readers.Run.{Run}
+use Rattle.sheet.specs.declared.clauses.Referrer.the-variants.{MoveTo, Do, Stay}
+use Rattle.sheet.specs.declared.clauses.Referrer.{Referrer}
+use Rattle.sheet.proofs.Contents.{states-length}
+use Rattle.sheet.proofs.ReaderLaws.{stands-right}
+use Rattle.sheet.proofs.Rules.{accepted-right}
+use Rattle.sheet.proofs.Reading.{state-of-in, state-of-past, actions-in, action-of-in, mem-whens}
+use Rattle.sheet.proofs.Sound.{referrers-in}
+use Rattle.node.specs.Values.{truth-of}
+use Rattle.node.specs.Probing.{clause-true, first-hit, Crewed, Probes, Turns}
+use Rattle.node.specs.declared.probing.Probed.{Probed}
+use Rattle.node.specs.declared.probing.Probed.the-variants.{Nothing, Found}
+use Rattle.node.specs.declared.probing.Ending.the-variants.{ByNone, ByStay, ByDo}
+use Rattle.node.specs.declared.probing.Turn.the-variants.{Stops, Moves}
+use Rattle.node.proofs.Agree.{truth-agree}
+
+-- a clause's truth, read of the bodies
+pub clause-told : (b sets whens guards : List ℕ) (w place : ℕ) (r : Bool) → whens ≡ body b 2 → guards ≡ body b 3 → place ≡ guard-place whens w
+    → r ≡ truth-of sets (guard-from guards place) → r ≡ clause-true b sets w
+unfolding clause-true
+clause-told b sets whens guards w place r e f g h = rw (h, g, f, e)
+
+-- an action clause's command, read of the bodies
+pub command-read : (b actions : List ℕ) (q a m : ℕ) (r : Run) → RunIs r (body b 1) 2 q → actions ≡ body b 4
+    → m ≡ action-command actions (r .first + a) → m ≡ action-command (body b 4) (first-action (body b 1) q + a)
+command-read b actions q a m r i e f = f ∙ rw (e, i .first-is)
+
+-- a turn of the search: none of the clauses before the i-th of n is true
+pub record NoneBefore (b sets : List ℕ) (first n i : ℕ) : Type 0 where
+  pub inside : i ≤ n
+  pub none-true : (j : ℕ) → j < i → clause-true b sets (first + j) ≡ false
+
+-- clause k of n is true and none before it is
+pub record FirstTrue (b sets : List ℕ) (first n k : ℕ) : Type 0 where
+  pub inside : k < n
+  pub true-here : clause-true b sets (first + k) ≡ true
+  pub none-true : (j : ℕ) → j < k → clause-true b sets (first + j) ≡ false
+
+module _ (b sets : List ℕ) (first n : ℕ) where
+  abbrev test : ℕ → Bool
+  test i = clause-true b sets (first + i)
+
+  pub none-start : NoneBefore b sets first n 0
+  none-start = record { inside = omega arith; none-true = λ j l. absurd (omega arith) }
+
+  pub none-more : (i : ℕ) → NoneBefore b sets first n i → (i ≡ n → ⊥) → clause-true b sets (first + i) ≡ false → NoneBefore b sets first n (i + 1)
+  none-more i d m f =
+      let a = d .inside in
+      record { inside = omega arith; none-true = λ j l. below-next (λ (j : ℕ). clause-true b sets (first + j) ≡ false) i (d .none-true) f j (let z : j < suc i = omega arith in z) }
+
+  -- all were tried
+  pub none-hit : (i : ℕ) → NoneBefore b sets first n i → i ≡ n → n ≡ first-hit b sets first n
+  unfolding first-hit
+  none-hit i d e = go (least n test) refl
+    where
+      go : (o : Option ℕ) → least n test ≡ o → n ≡ maybe o (λ _. n) (λ i. i)
+      go none p = refl
+      go (some k) p =
+          let (l, t, f) = least-some n test k p in
+          absurd (true-not-false t (d .none-true k (omega arith)))
+
+  -- the i-th is true
+  pub hit-here : (i : ℕ) → NoneBefore b sets first n i → (i ≡ n → ⊥) → clause-true b sets (first + i) ≡ true → i ≡ first-hit b sets first n
+  unfolding first-hit
+  hit-here i d m t = go (least n test) refl
+    where
+      go : (o : Option ℕ) → least n test ≡ o → i ≡ maybe o (λ _. n) (λ i. i)
+      go none p = absurd (let a = d .inside in true-not-false t (least-none n test p i (omega arith)))
+      go (some k) p = let (l, u, f) = least-some n test k p in at k u f (lt-or-le k i) (lt-or-le i k)
+        where
+          at : (k : ℕ) → test k ≡ true → ((j : ℕ) → j < k → test j ≡ false) → (k < i) ⊎ (i ≤ k) → (i < k) ⊎ (k ≤ i) → i ≡ k
+          at k u f (inl x) y = absurd (true-not-false u (d .none-true k x))
+          at k u f (inr x) (inl y) = absurd (true-not-false t (f i y))
+          at k u f (inr x) (inr y) = omega arith
+
+  -- what the search's answer says
+  pub hit-none : (k : ℕ) → k ≡ first-hit b sets first n → k ≡ n → NoneBefore b sets first n n
+  unfolding first-hit
+  hit-none k e z = go (least n test) refl e
+    where
+      go : (o : Option ℕ) → least n test ≡ o → k ≡ maybe o (λ _. n) (λ i. i) → NoneBefore b sets first n n
+      go none p e = record { inside = omega arith; none-true = least-none n test p }
+      go (some j) p e = absurd (let (l, t, f) = least-some n test j p in omega arith)
+
+  pub hit-some : (k : ℕ) → k ≡ first-hit b sets first n → (k ≡ n → ⊥) → FirstTrue b sets first n k
+  unfolding first-hit
+  hit-some k e z = go (least n test) refl e
+    where
+      go : (o : Option ℕ) → least n test ≡ o → k ≡ maybe o (λ _. n) (λ i. i) → FirstTrue b sets first n k
+      go none p e = absurd (z e)
+      go (some j) p e = let (l, t, f) = least-some n test k (p ∙ ap some (sym e)) in record { inside = l; true-here = t; none-true = f }
+
+-- the first true clause of those that are listed from a on, numbered from i
+module _ (ks : List Child) (f : ℕ → When) where
+  none-listed : (i a n : ℕ) → ((j x : ℕ) → x ≡ a + j → j < n → holds (f x .guard) ks ≡ false) → first-true ks i (listed a n f) ≡ nothing
+  unfolding first-true listed
+  none-listed i a zero h = refl
+  none-listed i a (suc n) h = rw (h 0 a (omega arith) (omega arith)) (none-listed (i + 1) (suc a) n (λ j x e l. h (suc j) x (omega arith) (omega arith)))
+
+  found-listed : (i a n k x y : ℕ) → x ≡ a + k → y ≡ i + k → k < n → holds (f x .guard) ks ≡ true → ((j x : ℕ) → x ≡ a + j → j < k → holds (f x .guard) ks ≡ false)
+      → first-true ks i (listed a n f) ≡ found y (f x .referrer)
+  unfolding first-true listed
+  found-listed i a zero k x y p q l t h = absurd (omega arith)
+  found-listed i a (suc n) zero x y p q l t h =
+      let e : a ≡ x = omega arith in
+      let g : i ≡ y = omega arith in
+      rw (e, g, t)
+  found-listed i a (suc n) (suc k) x y p q l t h =
+      rw (h 0 a (omega arith) (omega arith))
+      (found-listed (i + 1) (suc a) n k x y (omega arith) (omega arith) (omega arith) t (λ j x e l. h (suc j) x (omega arith) (omega arith)))
+
+-- a clause's truth on the sets is that of its guard on the children
+clause-agree : (b sets : List ℕ) (ks : List Child) → Crewed sets ks → (w : ℕ) → clause-true b sets w ≡ holds (when-in (bodies b) w .guard) ks
+unfolding clause-true when-in bodies
+clause-agree b sets ks k w = truth-agree sets ks (k .eight) (k .shows) (k .small) (bodies b) (guard-place (body b 2) w)
+
+module _ (b : List ℕ) (p : Places) (stands : Stands b p) (q : ℕ) where
+  -- a state past the last has no clause: its count lies past the end
+  no-count : in-fours (body b 1) ≤ q → when-count (body b 1) q ≡ 0
+  unfolding bodies
+  no-count l =
+      let whole : length (body b 1) ≡ in-fours (body b 1) * 4 = states-length b (stands-right b p stands) in
+      let x : byte (body b 1) (q * 4 + 0) ≡ 0 = List·getD-eq-default (body b 1) 0 (let z : length (body b 1) ≤ q * 4 + 0 = omega arith in z) in
+      let y : byte (body b 1) (q * 4 + 0 + 1) ≡ 0 = List·getD-eq-default (body b 1) 0 (let z : length (body b 1) ≤ q * 4 + 0 + 1 = omega arith in z) in
+      rw (x, y)
+
+  module _ (sets : List ℕ) (r : Run) (run-is : RunIs r (body b 1) 0 q) (k : ℕ) (hit : k ≡ first-hit b sets (r .first) (r .count)) where
+    -- the clauses of a state that is there
+    whens-listed : q < in-fours (body b 1) → state-of (class-of b) q .whens ≡ listed (r .first) (r .count) (when-in (bodies b))
+    unfolding class-of bodies state-in
+    whens-listed l = rw (run-is .first-is, run-is .count-is) (ap (λ (s : State). s .whens) (state-of-in (bodies b) q l))
+
+    pub probes-none : k ≡ r .count → Probes b sets q Nothing
+    unfolding probe class-of bodies first-true
+    probes-none e ks crewed = go (lt-or-le q (in-fours (body b 1)))
+      where
+        go : (q < in-fours (body b 1)) ⊎ (in-fours (body b 1) ≤ q) → nothing ≡ probe (class-of b) ks q
+        go (inl l) =
+            rw (whens-listed l)
+            (sym (none-listed ks (when-in (bodies b)) 0 (r .first) (r .count) (λ j x z m. rw z (sym (clause-agree b sets ks crewed (r .first + j)) ∙ hit-none b sets (r .first) (r .count) k hit e .none-true j m))))
+        go (inr l) = rw (state-of-past (bodies b) q l)
+
+    pub probes-found : (k ≡ r .count → ⊥) → (whens : List ℕ) → whens ≡ body b 2 → (x : Referrer)
+        → reads-as x ≡ referrer-of (referrer-number whens (r .first + k)) (target whens (r .first + k)) → Probes b sets q (Found k x)
+    unfolding probe when-in bodies
+    probes-found m whens e x f ks crewed = go (lt-or-le q (in-fours (body b 1)))
+      where
+        h : FirstTrue b sets (r .first) (r .count) k
+        h = hit-some b sets (r .first) (r .count) k hit m
+
+        go : (q < in-fours (body b 1)) ⊎ (in-fours (body b 1) ≤ q) → found k (reads-as x) ≡ probe (class-of b) ks q
+        go (inl l) =
+            rw (f, e, whens-listed l)
+            (sym (found-listed ks (when-in (bodies b)) 0 (r .first) (r .count) k (r .first + k) k refl (omega arith) (h .inside)
+            (sym (clause-agree b sets ks crewed (r .first + k)) ∙ h .true-here)
+            (λ j x z m. rw z (sym (clause-agree b sets ks crewed (r .first + j)) ∙ h .none-true j m))))
+        go (inr l) = absurd (omega (arith, h .inside, run-is .count-is, no-count l))
+
+  -- the command of the action clause that a clause found of state q runs
+  command-told : (ks : List Child) (i a : ℕ) → probe (class-of b) ks q ≡ found i (run a) → command-of (class-of b) q a ≡ action-command (body b 4) (first-action (body b 1) q + a)
+  unfolding class-of bodies action-in
+  command-told ks i a e =
+      let s = bodies b in
+      let d : When = record { guard = atom any-in everyone 0; referrer = stay } in
+      let H = probe-found (class-in s) ks d q i (run a) e in
+      let m = getD-mem (state-of (class-in s) q .whens) i d (H .listed) in
+      let (j, l, u, z) = mem-whens s q (getD (state-of (class-in s) q .whens) i d) m in
+      let right : a < length (state-of (class-in s) q .actions) = subst (ReferrerRight (class-in s) q) (H .referrer) (referrers-in s (accepted-right b (stands .accepted) .bodies) q (getD (state-of (class-in s) q .whens) i d) m) in
+      let low : a < action-count (body b 1) q = rw (actions-in s q l) at right in
+      ap (λ (x : Action). x .command) (action-of-in s q a no-action l low)
+
+  -- what follows from the probe's answer
+  module _ (sets : List ℕ) (r : Probed) (probes : Probes b sets q r) where
+    pub turns-none : r ≡ Nothing → Turns b sets q (Stops ByNone)
+    unfolding turn turn-for
+    turns-none e ks crewed = rw (sym (rw e at (probes ks crewed)))
+
+    pub turns-moves : (i : ℕ) (x : Referrer) → r ≡ Found i x → (t : _) → x ≡ MoveTo t → Turns b sets q (Moves t)
+    unfolding turn turn-for
+    turns-moves i x e t f ks crewed = rw (sym (rw (e, f) at (probes ks crewed)))
+
+    pub turns-stay : (i : ℕ) (x : Referrer) → r ≡ Found i x → x ≡ Stay → Turns b sets q (Stops ByStay)
+    unfolding turn turn-for
+    turns-stay i x e f ks crewed = rw (sym (rw (e, f) at (probes ks crewed)))
+
+    pub turns-do : (i : ℕ) (x : Referrer) → r ≡ Found i x → (a : ℕ) → x ≡ Do a → (m : ℕ) → m ≡ action-command (body b 4) (first-action (body b 1) q + a) → Turns b sets q (Stops (ByDo m))
+    unfolding turn turn-for
+    turns-do i x e a f m g ks crewed =
+        let p : found i (run a) ≡ probe (class-of b) ks q = rw (e, f) at (probes ks crewed) in
+        rw (sym p, command-told ks i a (sym p), g)

@@ -1,0 +1,22 @@
+-- `atom_holds` by mask: a law for each kind.
+-- Assumes nothing.
+use native.Mathlib.Omega.{arith}
+use borrow.Author.Needs.{needs}
+use Rattle.node.proofs.ValueLaws.{any-met, any-left, none-left, none-met}
+use Rattle.node.proofs.values.atom_holds.Statement.{statement}
+use Rattle.node.proofs.values.atom_holds.Tie as tie
+
+returns : tie.Need-returns
+returns c = let o = c .before .occupied-names in any-met _ _ _ _ _ (omega arith) (o .ensures) (c .match .keys1)
+
+returns-2 : tie.Need-returns-2
+returns-2 c = let o = c .before .occupied-names in any-left _ _ _ _ _ (omega arith) (o .ensures) (c .match .keys2)
+
+returns-3 : tie.Need-returns-3
+returns-3 c = let o = c .before .occupied-names in none-left _ _ _ _ _ (omega arith) (o .ensures) (c .match .keys3)
+
+returns-4 : tie.Need-returns-4
+returns-4 c = let o = c .before .occupied-names in none-met _ _ _ _ _ (omega arith) (o .ensures) (omega arith)
+
+pub atom-holds-spec : {M : Type 1} → statement M
+atom-holds-spec = tie.close (tie.spec (λ c κs. search needs) returns returns-2 returns-3 returns-4)

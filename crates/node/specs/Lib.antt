@@ -1,0 +1,6 @@
+pub mod Sets
+pub mod Values
+pub mod Lists
+pub mod Probing
+pub mod Phases
+pub mod Commands

@@ -1,0 +1,38 @@
+// The when phase: probe, move, probe again, until it settles or S moves have been made.
+use crate::probing::Ending;
+use crate::probing::Turn;
+use crate::probing::turn_from;
+use model::OwnState;
+use sheet::judging::Places;
+use sheet::readers::state_count;
+ghost use Rattle.sheet.specs.Judgement.{Stands};
+ghost use Rattle.node.specs.Phases.{Phases};
+
+// Settled by what, in which state, after how many moves; or loop, the state after S moves, S.
+pub enum Phase {
+    Settled(Ending, OwnState, usize),
+    Loops(OwnState, usize),
+}
+
+// The when phase from state q.
+pub fn when_phase(sheet: &[u8], p: Places, q: OwnState, sets: [u32; 8]) -> Phase
+    requires { ⌜ Stands (now sheet) p ⌝ }
+    ensures { λ r. ⌜ Phases (now (sheet .entry)) sets (q .0) r ⌝ }
+{
+    let most = state_count(sheet, p);
+    let mut at = q.0;
+    let mut moves = 0;
+    while moves < most {
+        let taken = turn_from(sheet, p, OwnState(at), sets);
+        match taken {
+            Turn::Stops(e) => {
+                return Phase::Settled(e, OwnState(at), moves);
+            }
+            Turn::Moves(t) => {
+                at = t.0;
+            }
+        }
+        moves = moves + 1;
+    }
+    Phase::Loops(OwnState(at), moves)
+}

@@ -1,0 +1,107 @@
+// The probe: the first clause of a state whose guard is true.
+use crate::values::guard_true;
+use model::OwnState;
+use sheet::clauses::Referrer;
+use sheet::clauses::action_command;
+use sheet::clauses::guard_place;
+use sheet::clauses::referrer_at;
+use sheet::judging::Places;
+use sheet::readers::ACTION_CLAUSES;
+use sheet::readers::ACTIONS;
+use sheet::readers::GUARDS;
+use sheet::readers::WHEN_CLAUSES;
+use sheet::readers::WHENS;
+use sheet::readers::body_of;
+use sheet::readers::clauses_of;
+ghost use mathlib.Core.Path.{_≡_};
+ghost use Prim.Native.Nat.{_+_, _<_, _≤_};
+ghost use Rattle.sheet.specs.Contents.{body};
+ghost use Rattle.sheet.specs.Clauses.{first-action, action-command};
+ghost use Rattle.sheet.specs.Judgement.{Stands};
+ghost use Rattle.node.specs.Probing.{clause-true, first-hit, Probes, Turns};
+
+// A clause's number within the state with its referrer and target, or none.
+pub enum Probed {
+    Nothing,
+    Found(usize, Referrer),
+}
+
+// By what a phase settles: no clause, STAY, or DO with the command of its action clause.
+pub enum Ending {
+    ByNone,
+    ByStay,
+    ByDo(usize),
+}
+
+// One turn of the when phase: it ends, or the node moves.
+pub enum Turn {
+    Stops(Ending),
+    Moves(OwnState),
+}
+
+// When clause w's guard is true.
+fn clause_holds(sheet: &[u8], p: Places, w: usize, sets: [u32; 8]) -> bool
+    requires { ⌜ Stands (now sheet) p × (w < 4294967296) ⌝ }
+    ensures { λ r. ⌜ r ≡ clause-true (now (sheet .entry)) sets w ⌝ }
+{
+    let place = guard_place(body_of(sheet, p, WHENS), w);
+    guard_true(body_of(sheet, p, GUARDS), place, sets)
+}
+
+// The number of the first clause, of n from the first on, whose guard is true; n where there is none.
+fn first_true(sheet: &[u8], p: Places, first: usize, n: usize, sets: [u32; 8]) -> usize
+    requires { ⌜ Stands (now sheet) p × ((first ≤ 67108864) × (n < 65536)) ⌝ }
+    ensures { λ r. ⌜ r ≡ first-hit (now (sheet .entry)) sets first n ⌝ }
+{
+    let mut i = 0;
+    loop {
+        if i == n {
+            break n;
+        }
+        if clause_holds(sheet, p, first + i, sets) {
+            break i;
+        }
+        i = i + 1;
+    }
+}
+
+// The probe of state q.
+pub fn probe(sheet: &[u8], p: Places, q: OwnState, sets: [u32; 8]) -> Probed
+    requires { ⌜ Stands (now sheet) p ⌝ }
+    ensures { λ r. ⌜ Probes (now (sheet .entry)) sets (q .0) r ⌝ }
+{
+    let clauses = clauses_of(sheet, p, q, WHEN_CLAUSES);
+    let first = clauses.first;
+    let n = clauses.count;
+    let hit = first_true(sheet, p, first, n, sets);
+    if hit == n {
+        return Probed::Nothing;
+    }
+    Probed::Found(hit, referrer_at(body_of(sheet, p, WHENS), first + hit))
+}
+
+// The command of action clause a of state q.
+fn command_of(sheet: &[u8], p: Places, q: OwnState, a: u8) -> usize
+    requires { ⌜ Stands (now sheet) p ⌝ }
+    ensures { λ r. ⌜ (r ≡ action-command (body (now (sheet .entry)) 4) (first-action (body (now (sheet .entry)) 1) (q .0) + a)) × (r < 256) ⌝ }
+{
+    let clauses = clauses_of(sheet, p, q, ACTION_CLAUSES);
+    let first = clauses.first;
+    action_command(body_of(sheet, p, ACTIONS), first + (a as usize))
+}
+
+// What follows from the probe of state q.
+pub fn turn_from(sheet: &[u8], p: Places, q: OwnState, sets: [u32; 8]) -> Turn
+    requires { ⌜ Stands (now sheet) p ⌝ }
+    ensures { λ r. ⌜ Turns (now (sheet .entry)) sets (q .0) r ⌝ }
+{
+    let probed = probe(sheet, p, q, sets);
+    let Probed::Found(_, referrer) = probed else {
+        return Turn::Stops(Ending::ByNone);
+    };
+    match referrer {
+        Referrer::MoveTo(t) => Turn::Moves(t),
+        Referrer::Do(a) => Turn::Stops(Ending::ByDo(command_of(sheet, p, q, a))),
+        Referrer::Stay => Turn::Stops(Ending::ByStay),
+    }
+}
