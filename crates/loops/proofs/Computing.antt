@@ -1,0 +1,11 @@
+-- One name that opens every definition of the loop question, and what it rests on, so that a closed question computes: `unfolding computing`.
+-- Assumes nothing.
+use Rattle.loops.specs.Configurations.{cell, cells, chosen, list-of}
+use Rattle.loops.specs.LoopAnswer.{returning, counts, has-loop, longest, longest-in, loop-answer}
+use Rattle.loops.specs.Cells.{cell-present, held, present-among, counts-on}
+use Rattle.loops.specs.Chase.{table-next, move-count}
+use Rattle.model.proofs.Computing.{computing as computing-model}
+
+unfoldable pub computing : Unit {0}
+unfolding cell cells chosen list-of returning counts has-loop longest longest-in loop-answer cell-present held present-among counts-on table-next move-count computing-model
+computing = tt

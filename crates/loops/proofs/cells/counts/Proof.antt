@@ -1,0 +1,33 @@
+-- `counts`: each class so far is not present, or its set is not empty.
+-- Assumes nothing.
+use borrow.Author.Needs.{needs}
+use Prim.Native.Nat.{_≤_, _-_}
+use mathlib.Core.Path.{_≡_, sym}
+use mathlib.Core.Bool.{true}
+use Rattle.model.specs.Words.{each}
+use Rattle.model.proofs.Words.{each-none}
+use Rattle.loops.proofs.CellLaws.{counted, empty-one, counted-one, counted-all}
+use Rattle.loops.proofs.cells.counts.Statement.{statement}
+use Rattle.loops.proofs.cells.counts.Tie as tie
+
+abbrev Inv-loop : tie.InvT-loop
+Inv-loop present sets i₀ i = (i ≤ 8) × (each i (counted present sets) ≡ true)
+
+abbrev μ-loop : tie.MeasureT-loop
+μ-loop present sets i₀ i = 8 - i
+
+loop-holds : tie.Need-loop-holds Inv-loop μ-loop
+loop-holds c = (search needs, each-none _)
+
+returns : tie.Need-returns Inv-loop μ-loop
+returns c = sym (empty-one _ _ _ (c .before .loop-test .taken) (c .if1 .taken))
+
+loop-again : tie.Need-loop-again Inv-loop μ-loop
+loop-again c = (search needs, counted-one _ (c .before .before .before .args .t2) _ (c .before .before .loop .inv .1) (c .if1 .left))
+
+returns-2 : tie.Need-returns-2 Inv-loop μ-loop
+returns-2 c = sym (counted-all _ _ _ (c .before .loop .inv .0) (c .loop-test .left) (c .before .loop .inv .1))
+
+pub counts-spec : {M : Type 1} → statement M
+counts-spec =
+    tie.close (tie.spec Inv-loop μ-loop loop-holds (λ c. search needs) (λ c. search needs) (λ c. search needs) (λ c. search needs) returns (λ c. search needs) (λ c. search needs) loop-again returns-2)

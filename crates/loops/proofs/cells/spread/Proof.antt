@@ -1,0 +1,45 @@
+-- `spread`: from the last cell down, the sets show what is chosen of the cells from i on.
+-- Assumes nothing.
+use borrow.Author.Needs.{needs}
+use Prim.Native.Nat.{_-_}
+use native.Mathlib.Omega.{arith}
+use Rattle.loops.proofs.CellLaws.{Spreading, spreading-start, spreading-more, spreading-past, spreading-end}
+use Rattle.loops.proofs.cells.spread.Statement.{statement}
+use Rattle.loops.proofs.cells.spread.Tie as tie
+
+abbrev Inv-loop : tie.InvT-loop
+Inv-loop k classes names sets₀ i₀ sets i = Spreading classes names i₀ k sets i
+
+abbrev μ-loop : tie.MeasureT-loop
+μ-loop k classes names sets₀ i₀ sets i = i
+
+loop-holds : tie.Need-loop-holds Inv-loop μ-loop
+loop-holds c = spreading-start _ _ _ _
+
+mul-with-name : tie.Need-mul-with-name Inv-loop μ-loop
+mul-with-name c = omega (arith, c .before .before .before .before .before .pre .1 .class-small (c .before .before .loop .i - 1))
+
+array-read-with-name : tie.Need-array-read-with-name Inv-loop μ-loop
+array-read-with-name c = c .before .before .before .before .before .pre .1 .class-small (c .before .before .loop .i - 1)
+
+with-name-requires : tie.Need-with-name-requires Inv-loop μ-loop
+with-name-requires c κs = c .before .before .before .before .before .pre .1 .name-small (c .before .before .loop .i - 1)
+
+mul-sets : tie.Need-mul-sets Inv-loop μ-loop
+mul-sets c = omega (arith, c .before .before .before .before .before .before .pre .1 .class-small (c .before .before .before .loop .i - 1))
+
+array-write-sets : tie.Need-array-write-sets Inv-loop μ-loop
+array-write-sets c = c .before .before .before .before .before .before .pre .1 .class-small (c .before .before .before .loop .i - 1)
+
+loop-again : tie.Need-loop-again Inv-loop μ-loop
+loop-again c = let b = c .before .before in spreading-more _ _ _ _ _ _ (b .before .loop .inv) (b .loop-test .taken) _ (c .before .if1 .taken) (c .before .before .before .before .before .before .pre .1 .class-small (c .before .before .before .loop .i - 1)) (c .with-name .ensures) (c .with-name .ok)
+
+loop-again-2 : tie.Need-loop-again-2 Inv-loop μ-loop
+loop-again-2 c = let b = c .before in spreading-past _ _ _ _ _ _ (b .before .loop .inv) (b .loop-test .taken) (c .if1 .left)
+
+returns : tie.Need-returns Inv-loop μ-loop
+returns c = spreading-end _ _ _ _ _ _ (c .before .loop .inv) (c .loop-test .left)
+
+pub spread-spec : {M : Type 1} → statement M
+spread-spec =
+    tie.close (tie.spec Inv-loop μ-loop loop-holds (λ c. search needs) (λ c. search needs) (λ c. search needs) (λ c. search needs) (λ c. search needs) mul-with-name array-read-with-name (λ c. search needs) with-name-requires mul-sets array-write-sets (λ c. search needs) loop-again (λ c. search needs) loop-again-2 returns)
