@@ -1,0 +1,27 @@
+-- The worked cases marked P hold of the rules: one equation, computed from the bytes of sheets A, B and C, and the law that gives each entry.
+-- Assumes nothing.
+use mathlib.Core.Path.{_≡_, refl, sym, _∙_, ap}
+use mathlib.Core.List.{List, [], _∷_, map, List·Memᴰ, List·Memᴰ·not-nil, List·Memᴰ·cases-cons, head-eq-of-cons-eq, tail-eq-of-cons-eq}
+use mathlib.Core.Logic.{_⊎_, inl, inr}
+use Rattle.bargewicker.specs.Cases.{Case, cases, given, Worked, Holds}
+use Rattle.bargewicker.proofs.Computing.{computing}
+
+pub worked : Worked
+unfolding computing
+worked = refl
+
+-- what a map leaves as it is, it leaves at each entry
+fixed {ℓ} : {A : Type ℓ} (f : A → A) (xs : List A) → map f xs ≡ xs → (x : A) → List·Memᴰ x xs → f x ≡ x
+fixed f [] e x m = absurd (List·Memᴰ·not-nil m)
+fixed f (y ∷ ys) e x m = go (List·Memᴰ·cases-cons m) (fixed f ys (tail-eq-of-cons-eq e) x)
+  where
+    go : (x ≡ y) ⊎ List·Memᴰ x ys → (List·Memᴰ x ys → f x ≡ x) → f x ≡ x
+    go (inl p) r = ap f p ∙ head-eq-of-cons-eq e ∙ sym p
+    go (inr n) r = r n
+
+-- each case of the table holds
+pub case-holds : (e : Case) → List·Memᴰ e cases → Holds e
+unfolding given
+case-holds e m =
+    let p : given e ≡ e = fixed given cases worked e m in
+    record { numbers-are = ap (λ (x : Case). x .answer) p; buffer-is = ap (λ (x : Case). x .buffer) p }

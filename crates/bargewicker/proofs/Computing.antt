@@ -1,0 +1,13 @@
+-- One name that opens every definition of the questions, and what it rests on, so that a closed question computes: `unfolding computing`.
+-- Assumes nothing.
+use Rattle.bargewicker.specs.Questions.{judged, placed, bytes-of-handling, reply-command, bits-below, present-right, bytes-of-loops, reply-loop, reply}
+use Rattle.bargewicker.specs.Numbers.{handling-numbers, values, numbers}
+use Rattle.bargewicker.specs.Placing.{placed-refusal}
+use Rattle.bargewicker.specs.Cases.{given}
+use Rattle.model.proofs.Computing.{computing as computing-model}
+use Rattle.sheet.proofs.Computing.{computing as computing-sheet}
+use Rattle.loops.proofs.Computing.{computing as computing-loops}
+
+unfoldable pub computing : Unit {0}
+unfolding judged placed bytes-of-handling reply-command bits-below present-right bytes-of-loops reply-loop reply handling-numbers values numbers placed-refusal given computing-model computing-sheet computing-loops
+computing = tt

@@ -1,0 +1,10 @@
+pub mod Computing
+pub mod Cases
+pub mod Demand3
+pub mod FaceLaws
+pub mod AskedLaws
+pub mod BufferLaws
+pub mod HandlingLaws
+pub mod PresentLaws
+pub mod LoopLaws
+pub mod Unique

@@ -1,0 +1,49 @@
+-- `command_in`: 10, 11 and 12, then what the node's handling comes to.
+-- Assumes nothing.
+use native.Mathlib.Omega.{arith}
+use mathlib.Core.Path.{_≡_, refl}
+use lib.ListN.{length}
+use Rattle.model.specs.Tree.{Class}
+use Rattle.sheet.specs.Reading.{class-of}
+use Rattle.node.proofs.ListLaws.{list-short}
+use Rattle.bargewicker.specs.Questions.{Reply, placed, reply}
+use Rattle.bargewicker.proofs.AskedLaws.{not-fitting, fitting, right-list, crew}
+use Rattle.bargewicker.proofs.BufferLaws.{answered-refused, answer-over}
+use Rattle.bargewicker.proofs.HandlingLaws.{done-ignored, done-handled, done-short}
+use borrow.Author.Needs.{needs}
+use Rattle.bargewicker.proofs.command_in.Statement.{statement}
+use Rattle.bargewicker.proofs.command_in.Tie as tie
+
+returns : tie.Need-returns
+unfolding reply
+returns c = answered-refused _ _ (not-fitting _ _ (c .before .before .before .before .before .before .before .pre) _ _ _ (c .before .before .before .place .ensures) _ (c .before .placing .given .1) _) _ refl
+
+-- the list and the state are right
+fits : (c : tie.After-enum-told) → let a = c .before .before .before .before .before .before .args in
+    (rest : Class → Reply) → placed (a .sheet .now) (a .children .now) (a .state) rest ≡ rest (class-of (a .sheet .now))
+fits c = fitting _ _ (c .before .before .before .before .before .before .pre) _ _ _ (c .before .before .place .ensures) (c .enum-told .given .1)
+
+returns-2 : tie.Need-returns-2
+returns-2 c = answer-over _ _ _ _ _ (fits (c .before)) (omega arith) _ refl
+
+handle-requires : tie.Need-handle-requires
+handle-requires c κs =
+    let o = c .before in
+    let s = o .before .before .before .before .before .before .before .before in
+    let e = o .before .before .before .before .place .ensures in
+    let t = o .before .before .enum-told .given .1 in
+    let n : length (o .occupy .result) ≡ 8 = omega arith in
+    (s .pre, (crew _ _ (s .pre) _ _ _ e t _ n (o .occupy .ensures), list-short _ (s .pre .accepted) _ (right-list _ _ (s .pre) _ _ _ e t)))
+
+returns-3 : tie.Need-returns-3
+returns-3 c = done-ignored _ _ _ _ _ (fits (c .before .before .before .before .before .before .before .before)) (omega arith) _ _ (c .before .before .before .before .handle .ensures) (c .enum-told2 .given .1)
+
+returns-4 : tie.Need-returns-4
+returns-4 c = done-handled _ _ _ _ _ (fits (c .before .before .before .before .before .before .before .before .before)) (omega arith) _ _ (c .before .before .before .before .before .handle .ensures) _ _ (c .before .handling .given .1)
+
+returns-5 : tie.Need-returns-5
+returns-5 c = done-short _ _ _ _ _ (fits (c .before .before .before .before .before .before .before .before)) (omega arith) _ _ (c .before .before .before .before .handle .ensures) (c .enum-told3 .given .1)
+
+pub command-in-spec : {M : Type 1} → statement M
+command-in-spec =
+    tie.close (tie.spec (λ c κs. search needs) (λ c. search needs) returns (λ c. search needs) returns-2 (λ c κs. search needs) handle-requires (λ c. search needs) (λ c. search needs) (λ c. search needs) (λ c. search needs) returns-3 (λ c. search needs) returns-4 (λ c. search needs) returns-5)

@@ -1,0 +1,97 @@
+-- The worked cases of the paper that are marked P, as one table: sheets A, B and C, and what each question gives.
+-- Assumes nothing.
+use Prim.Native.Nat.{ℕ}
+use mathlib.Core.Path.{_≡_}
+use mathlib.Core.List.{List, [], _∷_, map}
+use lib.ListN.{set}
+use Rattle.bargewicker.specs.Questions.{Question, phase-from, command-in, loop-with, reply, lent, buffer-after}
+use Rattle.bargewicker.specs.Numbers.{numbers}
+
+-- heaters (COLD 0, HOT 1, FAULT 2); READY 0: any heater not in HOT, move to HOLD; HOLD 1: any in HOT, move to READY
+abbrev pub sheet-A : List ℕ
+sheet-A =
+    0x18 ∷ 0 ∷ 4 ∷ 0 ∷ 0x1c ∷ 0 ∷ 8 ∷ 0 ∷ 0x24 ∷ 0 ∷ 8 ∷ 0 ∷ 0x2c ∷ 0 ∷ 0x10 ∷ 0 ∷ 0x3c ∷ 0 ∷ 0 ∷ 0 ∷ 0x3c ∷ 0 ∷ 0 ∷ 0 ∷
+    7 ∷ 0 ∷ 0 ∷ 0 ∷ 1 ∷ 0 ∷ 0 ∷ 0 ∷ 1 ∷ 0 ∷ 0 ∷ 0 ∷ 0 ∷ 0 ∷ 0 ∷ 1 ∷ 1 ∷ 0 ∷ 0 ∷ 0 ∷
+    1 ∷ 0 ∷ 0 ∷ 0 ∷ 2 ∷ 0 ∷ 0 ∷ 0 ∷ 0 ∷ 0 ∷ 0 ∷ 0 ∷ 2 ∷ 0 ∷ 0 ∷ 0 ∷ []
+
+-- A with ALL in for ANY in
+abbrev pub sheet-B : List ℕ
+sheet-B = set sheet-A 52 2
+
+-- B with one action clause in READY, command 9: do 4 to all; if guard 1, then move_to 1; do 5 to all
+abbrev pub sheet-C : List ℕ
+sheet-C =
+    0x18 ∷ 0 ∷ 4 ∷ 0 ∷ 0x1c ∷ 0 ∷ 8 ∷ 0 ∷ 0x24 ∷ 0 ∷ 8 ∷ 0 ∷ 0x2c ∷ 0 ∷ 0x10 ∷ 0 ∷ 0x3c ∷ 0 ∷ 4 ∷ 0 ∷ 0x40 ∷ 0 ∷ 0x20 ∷ 0 ∷
+    7 ∷ 0 ∷ 0 ∷ 0 ∷ 1 ∷ 0 ∷ 1 ∷ 0 ∷ 1 ∷ 0 ∷ 0 ∷ 0 ∷ 0 ∷ 0 ∷ 0 ∷ 1 ∷ 1 ∷ 0 ∷ 0 ∷ 0 ∷
+    1 ∷ 0 ∷ 0 ∷ 0 ∷ 2 ∷ 0 ∷ 0 ∷ 0 ∷ 2 ∷ 0 ∷ 0 ∷ 0 ∷ 2 ∷ 0 ∷ 0 ∷ 0 ∷
+    9 ∷ 0 ∷ 4 ∷ 0 ∷
+    0 ∷ 4 ∷ 255 ∷ 0 ∷ 0 ∷ 0 ∷ 0 ∷ 0 ∷ 2 ∷ 0 ∷ 1 ∷ 0 ∷ 1 ∷ 0 ∷ 0 ∷ 0 ∷ 1 ∷ 1 ∷ 0 ∷ 0 ∷ 0 ∷ 0 ∷ 0 ∷ 0 ∷ 0 ∷ 5 ∷ 255 ∷ 0 ∷ 0 ∷ 0 ∷ 0 ∷ 0 ∷ []
+
+-- child lists of one or two heaters
+abbrev pub cold : List ℕ
+cold = 0 ∷ 0 ∷ []
+
+abbrev pub hot : List ℕ
+hot = 0 ∷ 1 ∷ []
+
+abbrev pub cold-hot : List ℕ
+cold-hot = 0 ∷ 0 ∷ 0 ∷ 1 ∷ []
+
+-- lent buffers of five, six and seven bytes, no byte of them 0
+abbrev pub five : List ℕ
+five = 91 ∷ 92 ∷ 93 ∷ 94 ∷ 95 ∷ []
+
+abbrev pub six : List ℕ
+six = 91 ∷ 92 ∷ 93 ∷ 94 ∷ 95 ∷ 96 ∷ []
+
+abbrev pub seven : List ℕ
+seven = 91 ∷ 92 ∷ 93 ∷ 94 ∷ 95 ∷ 96 ∷ 97 ∷ []
+
+-- a question, the paper's numbers of its answer, and the lent buffer afterwards
+pub record Case : Type 0 where
+  pub question : Question
+  pub answer : List ℕ
+  pub buffer : List ℕ
+
+abbrev pub asks : Question → List ℕ → List ℕ → Case
+asks question answer buffer = record { question = question; answer = answer; buffer = buffer }
+
+abbrev pub cases : List Case
+cases =
+    -- 1: loop, configuration 3, state 0, list 00 00 00 01
+    asks (loop-with sheet-A 1 seven) (0 ∷ 1 ∷ 3 ∷ 0 ∷ []) (0 ∷ 0 ∷ 0 ∷ 1 ∷ 95 ∷ 96 ∷ 97 ∷ []) ∷
+    -- 2: free, 1 move
+    asks (loop-with sheet-B 1 seven) (0 ∷ 0 ∷ 1 ∷ []) seven ∷
+    -- 3: none present: free, 0 moves; free, 1 move
+    asks (loop-with sheet-A 0 []) (0 ∷ 0 ∷ 0 ∷ []) [] ∷
+    asks (loop-with sheet-B 0 []) (0 ∷ 0 ∷ 1 ∷ []) [] ∷
+    -- 4: settled by none, state 0, 1 move
+    asks (phase-from sheet-A hot 1) (0 ∷ 0 ∷ 0 ∷ 1 ∷ []) [] ∷
+    -- 5: loop, 2 moves, state 0
+    asks (phase-from sheet-A cold-hot 0) (0 ∷ 3 ∷ 0 ∷ 2 ∷ []) [] ∷
+    -- 6: 00 00 04, state 1; 00 00 04 00 00 05, state 0
+    asks (command-in sheet-C hot 0 9 seven) (0 ∷ 1 ∷ 1 ∷ 3 ∷ []) (0 ∷ 0 ∷ 4 ∷ 94 ∷ 95 ∷ 96 ∷ 97 ∷ []) ∷
+    asks (command-in sheet-C cold 0 9 seven) (0 ∷ 1 ∷ 0 ∷ 6 ∷ []) (0 ∷ 0 ∷ 4 ∷ 0 ∷ 0 ∷ 5 ∷ 97 ∷ []) ∷
+    -- 7: ignored, state 0, nothing written
+    asks (command-in sheet-C hot 0 7 seven) (0 ∷ 0 ∷ 0 ∷ 0 ∷ []) seven ∷
+    -- 8: present 2: 13; buffer of 5: 15, of 6: accepted
+    asks (loop-with sheet-A 2 seven) (13 ∷ []) seven ∷
+    asks (loop-with sheet-A 1 five) (15 ∷ []) five ∷
+    asks (loop-with sheet-A 1 six) (0 ∷ 1 ∷ 3 ∷ 0 ∷ []) (0 ∷ 0 ∷ 0 ∷ 1 ∷ 95 ∷ 96 ∷ []) ∷
+    -- 10: list 00 03: 10; state 2: 11; command 64: 12
+    asks (phase-from sheet-A (0 ∷ 3 ∷ []) 0) (10 ∷ []) [] ∷
+    asks (phase-from sheet-A hot 2) (11 ∷ []) [] ∷
+    asks (command-in sheet-A hot 0 64 seven) (12 ∷ []) seven ∷ []
+
+-- what the rules give for the question of a case
+unfoldable pub given : Case → Case
+given e = asks (e .question) (numbers (reply (e .question))) (buffer-after (reply (e .question)) (lent (e .question)))
+
+-- every case of the table is what the rules give
+abbrev pub Worked : Type 0
+Worked = map given cases ≡ cases
+
+-- a case holds: the answer's numbers and the buffer afterwards are those of the rules
+pub record Holds (e : Case) : Type 0 where
+  pub numbers-are : numbers (reply (e .question)) ≡ e .answer
+  pub buffer-is : buffer-after (reply (e .question)) (lent (e .question)) ≡ e .buffer
