@@ -1,0 +1,11 @@
+-- The lines of the examples, computed from their bytes.
+-- Assumes nothing.
+use mathlib.Core.Path.{refl}
+use Rattle.bargewicker.proofs.Computing.{computing}
+use Rattle.texts.specs.Texts.{decimal-of, decimal-text}
+use Rattle.loopcheck.specs.Line.{child-fields, refused-line, free-line, loop-line, all-present, loop-reply, line}
+use Rattle.loopcheck.specs.Examples.{Examples}
+
+pub examples : Examples
+unfolding computing decimal-of decimal-text child-fields refused-line free-line loop-line all-present loop-reply line
+examples = record { of-A = refl; of-B = refl; of-nothing = refl }

@@ -1,0 +1,5 @@
+pub mod Fields
+pub mod Replies
+pub mod Printing
+pub mod Asking
+pub mod Examples

@@ -1,0 +1,157 @@
+// The batch tool: reads question lines from standard input and writes one answer line for each to standard output.
+//
+//   judge SHEET | probe SHEET LIST STATE | phase SHEET LIST STATE | command SHEET LIST STATE COMMAND BUFFER | loop SHEET PRESENT BUFFER
+//
+// Byte strings are lower-case hex, `-` for the empty one; numbers are decimal, 0 to 255; fields are parted by one space. A line that is
+// none of these, or longer than 262,144 bytes, is answered `bad line`. The answers' lines are in answers.rt.
+mod answers;
+mod asking;
+
+use crate::answers::bad_line;
+use crate::asking::answer;
+use libc::STDIN_FILENO;
+use libc::STDOUT_FILENO;
+use texts::reading::find;
+use texts::writing::append_byte;
+use texts::writing::append_bytes;
+ghost use Rattle.io.specs.Counts.{Counts};
+ghost use Rattle.questions.specs.Inputs.{Inside};
+
+// How far the input is taken: the next byte of the chunk, the chunk's bytes, the bytes of the line held so far; and whether it is over.
+pub struct Input {
+    pub at: usize,
+    pub end: usize,
+    pub held: usize,
+    pub over: bool,
+}
+
+// The answer to a line, of which at most one byte too many is held.
+fn line_answer(
+    line: &[u8],
+    sheet: &mut [u8],
+    list: &mut [u8],
+    lent: &mut [u8],
+    out: &mut [u8],
+) -> usize {
+    if 262144 < line.len() {
+        return bad_line(out);
+    }
+    answer(line, sheet, list, lent, out)
+}
+
+// Answers a line.
+fn respond(
+    line: &[u8],
+    sheet: &mut [u8],
+    list: &mut [u8],
+    lent: &mut [u8],
+    out: &mut [u8],
+) -> bool {
+    let end = line_answer(line, sheet, list, lent, out);
+    let stop = append_byte(out, end, b'\n');
+    io::write_all(STDOUT_FILENO, &out[..stop])
+}
+
+// The next chunk. Where there is none, the input is over, and a last line may have ended with no line feed.
+fn refill(
+    held: usize,
+    chunk: &mut [u8],
+    line: &[u8],
+    sheet: &mut [u8],
+    list: &mut [u8],
+    lent: &mut [u8],
+    out: &mut [u8],
+) -> Input
+    requires { ⌜ Counts held (now line) ⌝ }
+    ensures { λ r. ⌜ Inside r (now (chunk .exit)) (now (line .entry)) ⌝ }
+{
+    let got = libc::read(STDIN_FILENO, chunk);
+    let n = io::count(got, chunk);
+    if n == 0 {
+        if 0 < held {
+            respond(&line[..held], sheet, list, lent, out);
+        }
+        return Input {
+            at: 0,
+            end: 0,
+            held: 0,
+            over: true,
+        };
+    }
+    Input {
+        at: 0,
+        end: n,
+        held,
+        over: false,
+    }
+}
+
+// One turn: a further chunk is read, or the bytes up to a line feed or the chunk's end are taken, and a line that is whole is answered.
+fn turn(
+    s: Input,
+    chunk: &mut [u8],
+    line: &mut [u8],
+    sheet: &mut [u8],
+    list: &mut [u8],
+    lent: &mut [u8],
+    out: &mut [u8],
+) -> Input
+    requires { ⌜ Inside s (now chunk) (now line) ⌝ }
+    ensures { λ r. ⌜ Inside r (now (chunk .exit)) (now (line .exit)) ⌝ }
+{
+    let at = s.at;
+    let end = s.end;
+    let held = s.held;
+    if at == end {
+        return refill(held, chunk, line, sheet, list, lent, out);
+    }
+    let stop = find(&chunk[..end], at, b'\n');
+    let taken = append_bytes(line, held, &chunk[at..stop]);
+    if stop == end {
+        return Input {
+            at: end,
+            end,
+            held: taken,
+            over: false,
+        };
+    }
+    let written = respond(&line[..taken], sheet, list, lent, out);
+    Input {
+        at: stop + 1,
+        end,
+        held: 0,
+        over: !written,
+    }
+}
+
+// A proved loop has to end, and nothing says that the input does: the turns are counted down from a number that no run uses up.
+fn main() {
+    let mut chunk = [0u8; 65536];
+    let mut line = [0u8; 262145];
+    let mut sheet = [0u8; 131072];
+    let mut list = [0u8; 131072];
+    let mut lent = [0u8; 131072];
+    let mut out = [0u8; 262400];
+    let mut s = Input {
+        at: 0,
+        end: 0,
+        held: 0,
+        over: false,
+    };
+    let mut turns = u64::MAX;
+    while 0 < turns {
+        if s.over {
+            return;
+        }
+        s = turn(
+            s,
+            &mut chunk,
+            &mut line,
+            &mut sheet,
+            &mut list,
+            &mut lent,
+            &mut out,
+        );
+        turns = turns - 1;
+    }
+}

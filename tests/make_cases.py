@@ -1,0 +1,948 @@
+#!/usr/bin/env python3
+"""Makes crates/questions/stdin and crates/questions/stdout, the cases that the gate runs through the program `questions`.
+
+Run it at the repository's root: python3 tests/make_cases.py. It needs the standard library alone, and writes the same files every time.
+
+Each case is a question line with the answer line that document 01 ("the paper") asks for. The answers are written here by hand, from the
+paper; none is taken from the program. Sheets are put together by the small functions below, which only lay out bytes; they know no rule
+of the paper but its layouts. Three cases search all of 2 to the 20th configurations, which takes compiled code seconds; `rt try` runs
+out of its own limits there, and says so, on the interpreter and where it checks the compiler's assumptions.
+"""
+import os
+
+QUESTIONS, ANSWERS = [], []
+
+
+def case(question, answer):
+    QUESTIONS.append(question)
+    ANSWERS.append(answer)
+
+
+# ---------------------------------------------------------------------------------------------------------------- the layouts of the paper
+
+EVERYONE = 255                                     # the pattern of all children, FwCHILDREN
+ANY_IN, ANY_NOT_IN, ALL_IN, ALL_NOT_IN = range(4)  # the atoms' kinds
+MOVE_TO, DO, STAY = range(3)                       # the referrers
+
+
+def u16(n):
+    return n.to_bytes(2, "little")
+
+
+def u32(n):
+    return n.to_bytes(4, "little")
+
+
+def names(*ns):
+    """A name set: bit n stands for name n."""
+    return sum(1 << n for n in ns)
+
+
+def klass(*ns):
+    return u32(names(*ns))
+
+
+def state(whens, actions):
+    return u16(whens) + u16(actions)
+
+
+def when(guard, referrer, target=0):
+    return u16(guard) + bytes([referrer, target])
+
+
+def atom(kind, pattern, *ns):
+    return bytes([kind, pattern, 0, 0]) + u32(names(*ns))
+
+
+AND = bytes([4, 0, 0, 0, 0, 0, 0, 0])
+OR = bytes([5, 0, 0, 0, 0, 0, 0, 0])
+NOT = bytes([6, 0, 0, 0, 0, 0, 0, 0])
+
+
+def action(command, statements):
+    return bytes([command, 0]) + u16(statements)
+
+
+def send(command, pattern=EVERYONE):
+    return [bytes([0, command, pattern, 0, 0, 0, 0, 0])]
+
+
+def go(own_state):
+    return [bytes([1, own_state, 0, 0, 0, 0, 0, 0])]
+
+
+def branch(guard, then=(), other=()):
+    """An if: its record, its then-part, its else-part. A part is a list of records."""
+    return [bytes([2, 0]) + u16(guard) + u16(len(then)) + u16(len(other))] + list(then) + list(other)
+
+
+def raw(classes=(), states=(), whens=(), guards=(), actions=(), statements=()):
+    """A sheet of these records, whatever they are."""
+    bodies = [b"".join(records) for records in (classes, states, whens, guards, actions, statements)]
+    contents, start = b"", 24
+    for body in bodies:
+        contents += u16(start) + u16(len(body))
+        start += len(body)
+    return contents + b"".join(bodies)
+
+
+def sheet(classes, guards, states):
+    """A sheet from its states: each is (its when clauses, its action clauses), an action clause being (command, list of records)."""
+    return raw(
+        classes,
+        [state(len(whens), len(actions)) for whens, actions in states],
+        [clause for whens, _ in states for clause in whens],
+        guards,
+        [action(command, len(body)) for _, actions in states for command, body in actions],
+        [record for _, actions in states for _, body in actions for record in body],
+    )
+
+
+def patched(bytes_, at, *values):
+    b = bytearray(bytes_)
+    b[at:at + len(values)] = bytes(values)
+    return bytes(b)
+
+
+def hexed(b):
+    return b.hex() if b else "-"
+
+
+def pairs(children):
+    return b"".join(bytes(c) for c in children)
+
+
+# ------------------------------------------------------------------------------------------------------------------------- the questions
+
+
+def judge(s):
+    return "judge " + hexed(s)
+
+
+def probe(s, children, q):
+    return "probe %s %s %d" % (hexed(s), hexed(pairs(children)), q)
+
+
+def phase(s, children, q):
+    return "phase %s %s %d" % (hexed(s), hexed(pairs(children)), q)
+
+
+def command(s, children, q, m, buffer):
+    return "command %s %s %d %d %s" % (hexed(s), hexed(pairs(children)), q, m, hexed(buffer))
+
+
+def loop(s, present, buffer):
+    return "loop %s %d %s" % (hexed(s), present, hexed(buffer))
+
+
+def accepted(s):
+    case(judge(s), "accepted")
+
+
+def refused(number, s):
+    case(judge(s), "refused %d" % number)
+
+
+# --------------------------------------------------------------------------------------------------------------- "Sheets to try", items 1 to 11
+
+A = bytes.fromhex("18000400 1C000800 24000800 2C001000 3C000000 3C000000 07000000 01000000 01000000 00000001 01000000 0100000002000000 0000000002000000")
+COLD, HOT, FAULT = (0, 0), (0, 1), (0, 2)
+assert len(A) == 60
+assert A == sheet([klass(0, 1, 2)], [atom(ANY_NOT_IN, 0, 1), atom(ANY_IN, 0, 1)], [([when(0, MOVE_TO, 1)], []), ([when(1, MOVE_TO, 0)], [])])
+B = patched(A, 52, 2)
+C = sheet(
+    [klass(0, 1, 2)], [atom(ANY_NOT_IN, 0, 1), atom(ALL_IN, 0, 1)],
+    [([when(0, MOVE_TO, 1)], [(9, send(4) + branch(1, go(1)) + send(5))]), ([when(1, MOVE_TO, 0)], [])])
+SIX = bytes.fromhex("a1a2a3a4a5a6")
+
+accepted(A)
+accepted(B)
+accepted(C)
+# 1 to 3
+case(loop(A, 1, SIX), "loop 3 0 00000001a5a6")
+case(loop(B, 1, SIX), "free 1 a1a2a3a4a5a6")
+case(loop(A, 0, b""), "free 0 -")
+case(loop(B, 0, b""), "free 1 -")
+case(loop(A, 0, SIX), "free 0 a1a2a3a4a5a6")
+# 4 and 5
+case(phase(A, [HOT], 1), "none 0 1")
+case(phase(A, [COLD, HOT], 0), "loop 0 2")
+case(phase(A, [COLD, HOT], 1), "loop 1 2")
+case(probe(A, [COLD, HOT], 0), "clause 0 0 1")
+case(probe(A, [COLD, HOT], 1), "clause 0 0 0")
+case(probe(A, [HOT], 0), "none")
+case(phase(A, [HOT], 0), "none 0 0")
+case(phase(A, [FAULT], 0), "none 1 1")
+case(phase(A, [], 0), "none 0 0")
+case(phase(B, [], 1), "none 0 1")
+# 6 and 7
+case(command(C, [HOT], 0, 9, SIX), "handled 1 3 000004a4a5a6")
+case(command(C, [COLD], 0, 9, SIX), "handled 0 6 000004000005")
+case(command(C, [HOT], 0, 7, SIX), "ignored 0 0 a1a2a3a4a5a6")
+case(command(C, [HOT], 1, 9, SIX), "ignored 1 0 a1a2a3a4a5a6")
+case(command(C, [HOT], 0, 7, b""), "ignored 0 0 -")
+case(command(C, [COLD], 0, 9, SIX[:5]), "refused 15 a1a2a3a4a5")
+case(command(C, [HOT], 0, 9, SIX[:3]), "handled 1 3 000004")
+case(command(C, [HOT], 0, 9, SIX[:2]), "refused 15 a1a2")
+# with no child ALL in HOT is true: nothing is sent, and the node moves
+case(command(C, [], 0, 9, b""), "handled 1 0 -")
+# 8
+case(loop(A, 2, SIX), "refused 13 a1a2a3a4a5a6")
+case(loop(A, 1, SIX[:5]), "refused 15 a1a2a3a4a5")
+case(loop(B, 1, SIX[:5]), "refused 15 a1a2a3a4a5")
+# 9
+refused(2, A[:59])
+refused(1, b"")
+refused(5, patched(A, 52, 7))
+refused(6, patched(A, 36, 2))
+refused(7, patched(A, 39, 2))
+# 10
+case(probe(A, [(0, 3)], 0), "refused 10")
+case(phase(A, [(0, 3)], 0), "refused 10")
+case(command(A, [(0, 3)], 0, 0, SIX), "refused 10 a1a2a3a4a5a6")
+case(probe(A, [HOT], 2), "refused 11")
+case(phase(A, [HOT], 2), "refused 11")
+case(command(A, [HOT], 2, 0, SIX), "refused 11 a1a2a3a4a5a6")
+case(command(A, [HOT], 0, 64, SIX), "refused 12 a1a2a3a4a5a6")
+
+# ------------------------------------------------------------------------------------------------------------------- 1 and 2: length and contents
+
+SMALLEST = sheet([], [], [([], [])])  # one state and nothing else
+assert len(SMALLEST) == 28
+accepted(SMALLEST)
+refused(1, SMALLEST[:23])
+refused(1, bytes(23))
+refused(1, b"\x00")
+refused(2, SMALLEST[:24])
+refused(2, bytes(24))
+refused(2, raw())  # 24 bytes, S of 0
+refused(2, SMALLEST[:27])
+refused(2, SMALLEST + b"\x00")
+refused(2, A + b"\x00")
+refused(2, A + A)
+
+# the longest sheet: every count at its largest
+LONGEST = sheet(
+    [klass(c) for c in range(8)], [atom(k % 4, k % 8, k % 32) for k in range(1024)],
+    [([when(8 * q + i, MOVE_TO, i) for i in range(8)], [(8 * i, send(63, i) + branch(1000 + i, go(31)) + send(0)) for i in range(8)]) for q in range(32)])
+assert len(LONGEST) == 18616
+accepted(LONGEST)
+refused(1, LONGEST + b"\x00")
+refused(2, LONGEST[:18615])
+refused(1, bytes(18617))
+refused(2, bytes(18616))
+
+# each count at its limit and one over it
+accepted(sheet([klass(0)] * 8, [], [([], [])]))
+refused(2, sheet([klass(0)] * 9, [], [([], [])]))
+accepted(sheet([], [], [([], [])] * 32))
+refused(2, sheet([], [], [([], [])] * 33))
+refused(2, sheet([klass(0)], [atom(ANY_IN, 0, 0)], []))
+ONE = [atom(ANY_IN, EVERYONE, 0)]
+accepted(sheet([], ONE, [([when(0, STAY)] * 256, [])]))
+refused(2, sheet([], ONE, [([when(0, STAY)] * 257, [])]))
+accepted(sheet([], ONE * 1024, [([], [])]))
+refused(2, sheet([], ONE * 1025, [([], [])]))
+accepted(sheet([], [], [([], [(m, []) for m in range(64)])] * 4))
+refused(2, sheet([], [], [([], [(m, []) for m in range(64)])] * 4 + [([], [(0, [])])]))
+accepted(sheet([], [], [([], [(0, send(0) * 1024)])]))
+refused(2, sheet([], [], [([], [(0, send(0) * 1025)])]))
+
+# contents that do not follow one another, or that hold no whole number of records
+refused(2, patched(A, 0, 25))                       # the first body does not start at byte 24
+refused(2, patched(A, 0, 0x18, 1))                  # its start is 280: the high byte counts
+refused(2, patched(A, 4, 29))                       # a gap before the states
+refused(2, patched(A, 8, 0x20))                     # the when clauses overlap the states
+refused(2, patched(A, 20, 0))                       # the last body starts elsewhere
+refused(2, patched(A, 22, 8))                       # the last body ends past the sheet
+refused(2, patched(A, 18, 4, 0))                    # one action clause that is not there
+refused(2, patched(A, 4, 0x1C, 0, 8, 1))            # the states' length is 264: the high byte counts
+refused(2, raw([klass(0), b"\x00"], [state(0, 0)]))             # 5 bytes of child classes
+refused(2, raw([], [state(0, 0), b"\x00\x00"]))                 # 6 bytes of states
+refused(2, raw([], [state(0, 0)], [], [AND[:4]]))               # 4 bytes of guard records
+refused(2, raw([], [state(0, 0)], [], [], [], [send(0)[0][:4]]))  # 4 bytes of statements
+refused(2, raw([], [state(0, 0)], [], [], [b"\x00"]))           # 1 byte of action clauses
+# lengths that wrap round to the right end: 65,532 bytes from byte 24 on end at byte 20 modulo 65,536
+refused(2, u16(24) + u16(65532) + u16(20) + u16(8) + (u16(28) + u16(0)) * 4 + state(0, 0))
+refused(2, u16(24) + u16(0) + u16(24) + u16(4) + u16(28) + u16(65532) + u16(24) + u16(0) + u16(24) + u16(4) + u16(28) + u16(0) + state(0, 0))
+
+# --------------------------------------------------------------------------------------------------------------------------- 3 and 4
+
+refused(3, sheet([klass()], [], [([], [])]))
+refused(3, sheet([klass(0)] * 7 + [klass()], [], [([], [])]))
+accepted(sheet([klass(31)], [], [([], [])]))
+accepted(sheet([klass(*range(32))] * 8, [], [([], [])]))
+
+refused(4, raw([], [state(1, 0)]))
+refused(4, raw([], [state(0, 1)]))
+refused(4, raw([], [state(0, 0)], [when(0, STAY)], ONE))
+refused(4, raw([], [state(0, 0)], [], [], [action(0, 0)]))
+refused(4, raw([], [state(1, 0), state(1, 0)], [when(0, STAY)], ONE))
+refused(4, raw([], [state(1, 1)], [when(0, STAY)], ONE, [action(0, 0)] * 2))
+refused(4, raw([], [state(256, 0)], [when(0, STAY)], ONE))
+accepted(raw([], [state(0, 0), state(1, 1)], [when(0, STAY)], ONE, [action(0, 0)]))
+# counts that would wrap in 16 bits
+refused(4, raw([], [state(32768, 0), state(32768, 0)]))
+refused(4, raw([], [state(0, 32768), state(0, 32768)]))
+refused(4, raw([], [state(65535, 0), state(2, 0)], [when(0, STAY)], ONE))
+refused(4, raw([], [state(0, 65535), state(0, 2)], [], [], [action(0, 0)]))
+refused(4, raw([], [state(65535, 65535)] * 32))
+
+# --------------------------------------------------------------------------------------------------------------------------- 5: guard records
+
+
+def with_guards(*records):
+    """One class, one state, and guard records that no clause uses."""
+    return sheet([klass(0, 1)], records, [([], [])])
+
+
+for kind in range(4):
+    accepted(with_guards(atom(kind, 0, 0)))
+    accepted(with_guards(atom(kind, EVERYONE, 31)))
+    refused(5, with_guards(atom(kind, 0)))                      # an empty name set
+    refused(5, with_guards(atom(kind, 1, 0)))                   # a pattern that is K
+    refused(5, with_guards(atom(kind, 254, 0)))
+    refused(5, with_guards(patched(atom(kind, 0, 0), 2, 1)))
+    refused(5, with_guards(patched(atom(kind, 0, 0), 3, 1)))
+for operator in (AND, OR, NOT):
+    accepted(with_guards(operator))                             # it dangles, and nothing uses it
+    for at in range(1, 8):
+        refused(5, with_guards(patched(operator, at, 1)))
+refused(5, with_guards(patched(NOT, 1, EVERYONE)))
+refused(5, with_guards(patched(AND, 0, 7)))
+refused(5, with_guards(patched(atom(ANY_IN, 0, 0), 0, 7)))
+refused(5, with_guards(patched(atom(ANY_IN, 0, 0), 0, 255)))
+refused(5, with_guards(atom(ANY_IN, 0, 0), atom(ANY_IN, 0, 0), bytes(8)))
+accepted(with_guards(atom(ANY_IN, 0, 2, 30, 31)))               # names that the class lacks
+accepted(with_guards(bytes([0, 0, 0, 0, 0, 0, 0, 128])))
+accepted(sheet([], [atom(ANY_IN, EVERYONE, 0)], [([], [])]))    # K of 0: only the pattern of all children
+refused(5, sheet([], [atom(ANY_IN, 0, 0)], [([], [])]))
+accepted(sheet([klass(0)] * 8, [atom(ANY_IN, 7, 0)], [([], [])]))
+refused(5, sheet([klass(0)] * 8, [atom(ANY_IN, 8, 0)], [([], [])]))
+accepted(with_guards(*[NOT] * 1024))                            # an unused chain that is too deep and runs past the end
+
+# --------------------------------------------------------------------------------------------------------------------------- 6: guards of when clauses
+
+LEAF = atom(ANY_IN, EVERYONE, 0)
+
+
+def begun(place, *records):
+    """One state with one when clause whose guard begins at a place."""
+    return sheet([], records, [([when(place, STAY)], [])])
+
+
+accepted(begun(0, LEAF))
+refused(6, begun(1, LEAF))
+refused(6, begun(256, LEAF))
+refused(6, begun(65535, LEAF))
+refused(6, begun(0))
+refused(6, begun(0, NOT))
+refused(6, begun(0, AND, LEAF))
+refused(6, begun(0, OR, LEAF, NOT))
+refused(6, begun(1, LEAF, AND, LEAF))
+accepted(begun(0, AND, LEAF, LEAF))
+accepted(begun(0, OR, NOT, LEAF, NOT, LEAF))
+accepted(begun(0, LEAF, NOT))                                   # the operator behind it is not its own
+accepted(begun(1, NOT, LEAF, AND))
+refused(6, sheet([], [LEAF], [([when(0, STAY)], []), ([when(0, STAY), when(1, STAY)], [])]))
+# at most 16 operators on one path
+accepted(begun(0, *[NOT] * 16, LEAF))
+refused(6, begun(0, *[NOT] * 17, LEAF))
+accepted(begun(1, *[NOT] * 17, LEAF))                           # counted from where this guard begins
+accepted(sheet([], [NOT] * 17 + [LEAF], [([], [])]))            # and of guards that are used
+accepted(begun(0, *[AND, LEAF] * 16, LEAF))                     # on the right operand's path
+refused(6, begun(0, *[AND, LEAF] * 17, LEAF))
+accepted(begun(0, *[OR] * 16, *[LEAF] * 17))                    # on the left operand's path
+refused(6, begun(0, *[OR] * 17, *[LEAF] * 18))
+accepted(begun(0, *[AND, NOT, LEAF] * 15, OR, LEAF, LEAF))      # 16 on the longest path of a mixed one
+refused(6, begun(0, *[AND, NOT, LEAF] * 15, OR, LEAF, NOT, LEAF))
+accepted(begun(0, AND, *[NOT] * 15, LEAF, *[NOT] * 15, LEAF))   # 31 operators, of which 16 lie on one path
+refused(6, begun(0, AND, *[NOT] * 15, LEAF, *[NOT] * 16, LEAF))
+# shared records: every when clause begins in the middle of the one before
+accepted(sheet([], [AND, NOT, LEAF, OR, LEAF, LEAF], [([when(p, STAY) for p in (0, 1, 2, 3, 4, 5, 0)], [])]))
+
+# --------------------------------------------------------------------------------------------------------------------------- 7: referrers and targets
+
+
+def referring(referrer, target):
+    """Two states; the first has one when clause and two action clauses, the second three action clauses."""
+    return sheet([], [LEAF], [([when(0, referrer, target)], [(0, []), (1, [])]), ([], [(0, []), (1, []), (2, [])])])
+
+
+accepted(referring(MOVE_TO, 0))
+accepted(referring(MOVE_TO, 1))
+refused(7, referring(MOVE_TO, 2))
+refused(7, referring(MOVE_TO, 255))
+accepted(referring(DO, 0))
+accepted(referring(DO, 1))
+refused(7, referring(DO, 2))                                    # the next state's clause
+refused(7, referring(DO, 255))
+accepted(referring(STAY, 0))
+refused(7, referring(STAY, 1))
+refused(7, referring(3, 0))
+refused(7, referring(255, 0))
+refused(7, sheet([], [LEAF], [([when(0, DO, 0)], []), ([], [(0, [])])]))
+accepted(sheet([], [LEAF], [([], []), ([when(0, DO, 0)], [(0, [])])]))
+refused(7, sheet([], [LEAF], [([when(0, STAY)] * 3, []), ([when(0, STAY), when(0, MOVE_TO, 2)], [])]))
+accepted(sheet([], [LEAF], [([when(0, MOVE_TO, 31)], [])] * 32))
+refused(7, sheet([], [LEAF], [([when(0, MOVE_TO, 32)], [])] * 32))
+
+# --------------------------------------------------------------------------------------------------------------------------- 8: action clauses
+
+accepted(sheet([], [], [([], [(63, [])])]))
+refused(8, sheet([], [], [([], [(64, [])])]))
+refused(8, sheet([], [], [([], [(0, []), (255, [])])]))
+refused(8, raw([], [state(0, 1)], [], [], [bytes([0, 1, 0, 0])]))
+refused(8, raw([], [state(0, 2)], [], [], [action(0, 0), bytes([1, 255, 0, 0])]))
+refused(8, sheet([], [], [([], [(5, []), (5, [])])]))
+refused(8, sheet([], [], [([], [(5, []), (6, []), (5, [])])]))
+refused(8, sheet([], [], [([], [(5, [])]), ([], [(6, []), (5, []), (6, [])])]))
+accepted(sheet([], [], [([], [(5, []), (6, [])]), ([], [(6, []), (5, [])])]))    # the same command in another state
+refused(8, raw([], [state(0, 1)], [], [], [action(0, 1)]))
+refused(8, raw([], [state(0, 1)], [], [], [action(0, 0)], send(0)))
+refused(8, raw([], [state(0, 2)], [], [], [action(0, 1), action(1, 1)], send(0) * 3))
+refused(8, raw([], [state(0, 1)], [], [], [action(0, 256)], send(0)))
+refused(8, raw([], [state(0, 0)], [], [], [], send(0)))                          # statements of no clause
+# counts that would wrap in 16 bits
+refused(8, raw([], [state(0, 2)], [], [], [action(0, 32768), action(1, 32768)]))
+refused(8, raw([], [state(0, 2)], [], [], [action(0, 65535), action(1, 2)], send(0)))
+accepted(raw([], [state(0, 2)], [], [], [action(0, 1), action(1, 2)], send(0) * 3))
+
+# --------------------------------------------------------------------------------------------------------------------------- 9: statements
+
+
+def doing(*records):
+    """One class, two states, guards 0 (an atom) and 1 (a not that runs past the end); one action clause of these records."""
+    return sheet([klass(0)], [LEAF, NOT], [([], [(0, list(records))]), ([], [])])
+
+
+accepted(doing())
+accepted(doing(*send(63, 0)))
+accepted(doing(*send(0, EVERYONE)))
+refused(9, doing(*send(64)))
+refused(9, doing(*send(255)))
+refused(9, doing(*send(0, 1)))                                  # a pattern that is K
+refused(9, doing(*send(0, 254)))
+for at in range(3, 8):
+    refused(9, doing(patched(send(0)[0], at, 1)))
+accepted(doing(*go(1)))
+refused(9, doing(*go(2)))
+refused(9, doing(*go(255)))
+for at in range(2, 8):
+    refused(9, doing(patched(go(0)[0], at, 1)))
+refused(9, doing(patched(send(0)[0], 0, 3)))
+refused(9, doing(patched(send(0)[0], 0, 255)))
+refused(9, doing(*go(0), *send(64)))                            # it can never run, and is judged all the same
+refused(9, doing(*branch(0, go(0) + send(0, 9))))
+accepted(doing(*branch(0)))                                     # an if with empty parts
+refused(9, doing(patched(branch(0)[0], 1, 1)))
+refused(9, doing(*branch(2)))                                   # its guard begins past the end
+refused(9, doing(*branch(65535)))
+refused(9, doing(*branch(1)))                                   # its guard runs past the end
+accepted(sheet([], [NOT] * 16 + [LEAF], [([], [(0, branch(0))])]))
+refused(9, sheet([], [NOT] * 17 + [LEAF], [([], [(0, branch(0))])]))
+accepted(sheet([], [NOT] * 17 + [LEAF], [([], [(0, branch(1))])]))
+
+
+def if_record(then, other, guard=0):
+    """An if's record alone."""
+    return bytes([2, 0]) + u16(guard) + u16(then) + u16(other)
+
+
+# parts that leave what encloses them
+accepted(doing(if_record(1, 1), *send(0), *send(0)))
+refused(9, doing(if_record(1, 0)))
+refused(9, doing(if_record(0, 1)))
+refused(9, doing(if_record(2, 0), *send(0)))
+refused(9, doing(if_record(1, 1), *send(0)))
+refused(9, doing(if_record(65535, 65535), *send(0)))
+refused(9, doing(if_record(65535, 1)))                          # the sum would wrap in 16 bits
+refused(9, doing(if_record(1, 65535), *send(0)))
+refused(9, doing(if_record(32768, 32768)))
+refused(9, doing(if_record(1, 0), if_record(1, 0), *send(0)))   # the inner then-part leaves the outer one, and not the clause
+refused(9, doing(if_record(1, 1), if_record(0, 1), *send(0)))   # the inner else-part leaves the outer then-part
+refused(9, doing(if_record(0, 1), if_record(1, 0), *send(0)))   # the inner then-part leaves the outer else-part
+accepted(doing(if_record(2, 0), if_record(1, 0), *send(0)))
+refused(9, sheet([], [LEAF], [([], [(0, [if_record(1, 0)]), (1, send(0))])]))   # it leaves its clause
+refused(9, sheet([], [LEAF], [([], [(0, [if_record(1, 0)])]), ([], [(0, send(0))])]))
+accepted(sheet([], [LEAF], [([], [(0, [if_record(0, 0)]), (1, send(0))])]))
+
+
+def nested(depth, inner=(), by_else=False):
+    """Ifs, each in the then-part (or the else-part) of the one before."""
+    part = list(inner)
+    for _ in range(depth):
+        part = branch(0, [], part) if by_else else branch(0, part)
+    return part
+
+
+# at most 8 deep; the ninth is refused even if it is empty
+accepted(doing(*nested(8)))
+accepted(doing(*nested(8, send(0))))
+refused(9, doing(*nested(9)))
+refused(9, doing(*nested(9, send(0))))
+accepted(doing(*nested(8, send(0), by_else=True)))
+refused(9, doing(*nested(9, by_else=True)))
+refused(9, doing(*nested(8, nested(1, by_else=True))))
+accepted(doing(*nested(4, nested(4, send(0), by_else=True))))
+accepted(doing(*(nested(8) * 9)))                               # one behind the other is no deeper
+refused(9, doing(*nested(3), *nested(9)))
+accepted(doing(*branch(0, nested(7), nested(7))))
+refused(9, doing(*branch(0, nested(7), nested(8))))
+accepted(doing(*branch(0, [record for _ in range(3) for record in nested(7, send(1))], nested(7))))
+
+# --------------------------------------------------------------------------------------------------------------------------- the order of the refusals
+
+# A sheet with all the faults 3 to 9 at once, from which they are taken away one by one.
+F3, F4, F5, F6, F7, F8, F9 = range(3, 10)
+
+
+def faulty(*faults):
+    f = set(faults)
+    return raw(
+        [klass(0), klass() if F3 in f else klass(1)],
+        [state(1, 1), state(2 if F4 in f else 1, 1)],
+        [when(0, 3 if F7 in f else STAY), when(9 if F6 in f else 0, STAY)],
+        [LEAF, patched(LEAF, 3, 1) if F5 in f else LEAF],
+        [action(0, 1), action(64 if F8 in f else 0, 1)],
+        send(0, 2 if F9 in f else 0) + send(0))
+
+
+accepted(faulty())
+refused(3, faulty(F3, F4, F5, F6, F7, F8, F9))
+refused(4, faulty(F4, F5, F6, F7, F8, F9))
+refused(5, faulty(F5, F6, F7, F8, F9))
+refused(6, faulty(F6, F7, F8, F9))
+refused(7, faulty(F7, F8, F9))
+refused(8, faulty(F8, F9))
+refused(9, faulty(F9))
+refused(3, faulty(F3, F9))
+refused(4, faulty(F4, F9))
+refused(5, faulty(F5, F8))
+refused(6, faulty(F6, F9))
+refused(7, faulty(F7, F9))
+refused(2, faulty(F3, F4, F5, F6, F7, F8, F9) + b"\x00")
+refused(1, faulty(F3, F4, F5, F6, F7, F8, F9)[:20])
+refused(2, patched(faulty(F3, F5), 0, 0))
+# a sheet is refused before the question is looked at
+case(probe(faulty(F9), [(9, 9)], 255), "refused 9")
+case(phase(faulty(F6), [(9, 9)], 255), "refused 6")
+case(command(faulty(F8), [(9, 9)], 255, 255, SIX), "refused 8 a1a2a3a4a5a6")
+case(loop(faulty(F3), 255, SIX), "refused 3 a1a2a3a4a5a6")
+case(probe(b"", [], 0), "refused 1")
+case(phase(b"", [], 0), "refused 1")
+case(command(b"", [], 0, 0, b""), "refused 1 -")
+case(loop(b"", 0, b""), "refused 1 -")
+case(loop(A[:59], 1, SIX), "refused 2 a1a2a3a4a5a6")
+# 10 before 11 before 12 before 15; 13 before 14 before 15
+case(probe(A, [(0, 3)], 2), "refused 10")
+case(command(C, [(0, 3)], 2, 64, b""), "refused 10 -")
+case(command(C, [COLD], 2, 64, b""), "refused 11 -")
+case(command(C, [COLD], 0, 64, b""), "refused 12 -")
+case(command(C, [COLD], 0, 9, b""), "refused 15 -")
+TWENTY_ONE = sheet([klass(*range(21))], [], [([], [])])
+case(loop(TWENTY_ONE, 3, b""), "refused 13 -")
+case(loop(TWENTY_ONE, 1, b""), "refused 14 -")
+case(loop(A, 1, b""), "refused 15 -")
+
+# --------------------------------------------------------------------------------------------------------------------------- 10, 11, 12: lists, states, commands
+
+LISTS = sheet([klass(0, 31), klass(1)], [LEAF], [([], [(63, send(1))]), ([], [])])
+case(probe(LISTS, [], 0), "none")
+case(probe(LISTS, [(0, 0), (0, 31), (1, 1)], 1), "none")
+case(probe(LISTS, [(0, 1)], 0), "refused 10")                   # a name of the other class
+case(probe(LISTS, [(1, 0)], 0), "refused 10")
+case(probe(LISTS, [(0, 32)], 0), "refused 10")                  # 32 is not name 0
+case(probe(LISTS, [(1, 33)], 0), "refused 10")
+case(probe(LISTS, [(0, 64)], 0), "refused 10")
+case(probe(LISTS, [(0, 63)], 0), "refused 10")
+case(probe(LISTS, [(0, 255)], 0), "refused 10")
+case(probe(LISTS, [(0, 224)], 0), "refused 10")
+case(probe(LISTS, [(2, 0)], 0), "refused 10")                   # class K
+case(probe(LISTS, [(255, 0)], 0), "refused 10")
+case(probe(LISTS, [(0, 0), (0, 0), (2, 0)], 0), "refused 10")
+case(probe(LISTS, [(2, 0), (0, 0), (0, 0)], 0), "refused 10")
+case("probe %s 00 0" % LISTS.hex(), "refused 10")               # odd
+case("probe %s 000000 0" % LISTS.hex(), "refused 10")
+case("phase %s 000000 0" % LISTS.hex(), "refused 10")
+case("command %s 000000 0 63 a1" % LISTS.hex(), "refused 10 a1")
+case(probe(SMALLEST, [], 0), "none")
+case(probe(SMALLEST, [(0, 0)], 0), "refused 10")                # K of 0
+MANY = [(0, 0), (0, 31), (1, 1), (0, 0)] * 1024
+case(probe(LISTS, MANY, 0), "none")                             # 4,096 children
+case(phase(LISTS, MANY + [(0, 0)], 0), "refused 10")            # 4,097
+case(probe(LISTS, [], 2), "refused 11")
+case(probe(LISTS, [], 255), "refused 11")
+case(phase(LISTS, [], 2), "refused 11")
+case(command(LISTS, [], 2, 0, b""), "refused 11 -")
+case(command(LISTS, [(0, 31)], 0, 63, SIX), "handled 0 3 000001a4a5a6")
+case(command(LISTS, [(0, 31)], 1, 63, SIX), "ignored 1 0 a1a2a3a4a5a6")
+case(command(LISTS, [(0, 31)], 0, 62, SIX), "ignored 0 0 a1a2a3a4a5a6")
+case(command(LISTS, [(0, 31)], 0, 64, SIX), "refused 12 a1a2a3a4a5a6")
+case(command(LISTS, [(0, 31)], 1, 255, SIX), "refused 12 a1a2a3a4a5a6")
+
+# --------------------------------------------------------------------------------------------------------------------------- atoms and the probe
+
+# State q has one when clause, whose guard is record q: the four atoms on class 0, then the four on all children; the set is {1}.
+ATOMS = sheet(
+    [klass(0, 1, 2), klass(0, 1)], [atom(kind, pattern, 1) for pattern in (0, EVERYONE) for kind in range(4)],
+    [([when(q, STAY)], []) for q in range(8)])
+TRUE, FALSE = "clause 0 2 0", "none"
+for children, truths in [
+        # the list                 class 0: ANY in, ANY not in, ALL in, ALL not in; all children: the same
+        ([],                       [FALSE, FALSE, TRUE, TRUE, FALSE, FALSE, TRUE, TRUE]),
+        ([(0, 1)],                 [TRUE, FALSE, TRUE, FALSE, TRUE, FALSE, TRUE, FALSE]),
+        ([(0, 0)],                 [FALSE, TRUE, FALSE, TRUE, FALSE, TRUE, FALSE, TRUE]),
+        ([(0, 0), (0, 1)],         [TRUE, TRUE, FALSE, FALSE, TRUE, TRUE, FALSE, FALSE]),
+        ([(0, 1), (0, 1), (0, 1)], [TRUE, FALSE, TRUE, FALSE, TRUE, FALSE, TRUE, FALSE]),
+        ([(1, 1)],                 [FALSE, FALSE, TRUE, TRUE, TRUE, FALSE, TRUE, FALSE]),
+        ([(1, 0)],                 [FALSE, FALSE, TRUE, TRUE, FALSE, TRUE, FALSE, TRUE]),
+        ([(1, 0), (0, 1)],         [TRUE, FALSE, TRUE, FALSE, TRUE, TRUE, FALSE, FALSE]),
+        ([(1, 1), (0, 2)],         [FALSE, TRUE, FALSE, TRUE, TRUE, TRUE, FALSE, FALSE]),
+]:
+    for q, truth in enumerate(truths):
+        case(probe(ATOMS, children, q), truth)
+
+# and, or, not over two atoms: x is "some child has name 0", y is "some child has name 1"
+X, Y = atom(ANY_IN, EVERYONE, 0), atom(ANY_IN, EVERYONE, 1)
+TABLE = [[AND, X, Y], [OR, X, Y], [NOT, X], [AND, NOT, X, Y], [NOT, OR, X, Y], [OR, AND, X, Y, NOT, X]]
+WITH = {"": [], "x": [(0, 0)], "y": [(0, 1)], "xy": [(0, 1), (0, 0)]}
+places, flat = [], []
+for guard in TABLE:
+    places.append(len(flat))
+    flat += guard
+OPERATORS = sheet([klass(0, 1)], flat, [([when(p, STAY)], []) for p in places])
+for who, truths in [("", [0, 0, 1, 0, 1, 1]), ("x", [0, 1, 0, 0, 0, 0]), ("y", [0, 1, 1, 1, 0, 1]), ("xy", [1, 1, 0, 0, 0, 1])]:
+    for q, truth in enumerate(truths):
+        case(probe(OPERATORS, WITH[who], q), TRUE if truth else FALSE)
+# sixteen nots are even, from the record behind the first of them they are fifteen
+NOTS = sheet([klass(0, 1)], [NOT] * 16 + [X], [([when(0, STAY)], []), ([when(1, STAY)], [])])
+case(probe(NOTS, [(0, 0)], 0), TRUE)
+case(probe(NOTS, [(0, 0)], 1), FALSE)
+case(probe(NOTS, [(0, 1)], 0), FALSE)
+case(probe(NOTS, [(0, 1)], 1), TRUE)
+
+# the first clause whose guard is true, with its number, referrer and target
+ORDER = sheet(
+    [klass(0, 1, 2)], [atom(ANY_IN, 0, n) for n in range(3)],
+    [([when(0, DO, 1), when(1, MOVE_TO, 1), when(0, STAY), when(2, STAY)], [(7, []), (8, [])]),
+     ([when(2, DO, 0), when(1, DO, 2)], [(9, []), (10, []), (63, [])])])
+case(probe(ORDER, [(0, 0)], 0), "clause 0 1 1")
+case(probe(ORDER, [(0, 1)], 0), "clause 1 0 1")
+case(probe(ORDER, [(0, 2)], 0), "clause 3 2 0")
+case(probe(ORDER, [(0, 2), (0, 1), (0, 0)], 0), "clause 0 1 1")
+case(probe(ORDER, [(0, 2), (0, 1)], 0), "clause 1 0 1")
+case(probe(ORDER, [], 0), "none")
+case(probe(ORDER, [(0, 0)], 1), "none")
+case(probe(ORDER, [(0, 1)], 1), "clause 1 1 2")
+case(probe(ORDER, [(0, 1), (0, 2)], 1), "clause 0 1 0")
+# the last of 256 clauses
+LAST = sheet([klass(0, 1)], [X, Y], [([when(0, MOVE_TO, 0)] * 255 + [when(1, STAY)], [])])
+case(probe(LAST, [(0, 1)], 0), "clause 255 2 0")
+case(probe(LAST, [(0, 1), (0, 0)], 0), "clause 0 0 0")
+case(phase(LAST, [(0, 1)], 0), "stay 0 0")
+
+# --------------------------------------------------------------------------------------------------------------------------- the when phase
+
+# DO names the command of its action clause, which is the state's own: clause 2 of state 1 is the fifth of the sheet
+case(phase(ORDER, [(0, 0)], 0), "do 0 0 8")
+case(phase(ORDER, [(0, 1)], 0), "do 1 1 63")
+case(phase(ORDER, [(0, 1), (0, 2)], 0), "do 1 1 9")
+case(phase(ORDER, [(0, 2)], 0), "stay 0 0")
+case(phase(ORDER, [(0, 1)], 1), "do 1 0 63")
+case(phase(ORDER, [(0, 0)], 1), "none 1 0")
+# a move to the own state is a move
+ALWAYS = atom(ALL_IN, EVERYONE, 0)   # true of the empty list
+OWN = sheet([], [ALWAYS], [([when(0, MOVE_TO, 0)], [])])
+case(phase(OWN, [], 0), "loop 0 1")
+case(probe(OWN, [], 0), "clause 0 0 0")
+OWN_THREE = sheet([], [ALWAYS], [([when(0, MOVE_TO, 1)], []), ([when(0, MOVE_TO, 1)], []), ([], [])])
+case(phase(OWN_THREE, [], 0), "loop 1 3")
+case(phase(OWN_THREE, [], 1), "loop 1 3")
+case(phase(OWN_THREE, [], 2), "none 2 0")
+# a ring of 32, a ring of 31 with a way into it, a chain of 31 moves
+RING = sheet([], [ALWAYS], [([when(0, MOVE_TO, (q + 1) % 32)], []) for q in range(32)])
+case(phase(RING, [], 0), "loop 0 32")
+case(phase(RING, [], 5), "loop 5 32")
+case(phase(RING, [], 31), "loop 31 32")
+case(phase(RING, [], 32), "refused 11")
+INTO = sheet([], [ALWAYS], [([when(0, MOVE_TO, q + 1 if q < 31 else 1)], []) for q in range(32)])
+case(phase(INTO, [], 0), "loop 1 32")      # one move to 1, then 31 round the ring
+case(phase(INTO, [], 1), "loop 2 32")      # 31 moves round the ring, and one
+CHAIN = sheet([], [ALWAYS], [([when(0, MOVE_TO, q + 1)], []) for q in range(31)] + [([], [])])
+case(phase(CHAIN, [], 0), "none 31 31")
+case(phase(CHAIN, [], 30), "none 31 1")
+case(phase(CHAIN, [], 31), "none 31 0")
+CHAIN_STAY = sheet([], [ALWAYS], [([when(0, MOVE_TO, q + 1)], []) for q in range(31)] + [([when(0, STAY)], [])])
+case(phase(CHAIN_STAY, [], 0), "stay 31 31")
+CHAIN_DO = sheet([], [ALWAYS], [([when(0, MOVE_TO, q + 1)], []) for q in range(31)] + [([when(0, DO, 1)], [(3, []), (2, [])])])
+case(phase(CHAIN_DO, [], 0), "do 31 31 2")
+# backwards
+DOWN = sheet([], [ALWAYS], [([], [])] + [([when(0, MOVE_TO, q - 1)], []) for q in range(1, 32)])
+case(phase(DOWN, [], 31), "none 0 31")
+# S of 1
+case(phase(SMALLEST, [], 0), "none 0 0")
+
+# --------------------------------------------------------------------------------------------------------------------------- commands
+
+# class 0 has names 0 to 7, class 1 has name 0; guard n: some child of class 0 has name n
+WISHES = [atom(ANY_IN, 0, n) for n in range(8)]
+
+
+def acting(*actions, states=3):
+    """State 0 with these action clauses, and two more states."""
+    return sheet([klass(*range(8)), klass(0)], WISHES, [([], list(actions))] + [([], [])] * (states - 1))
+
+
+KEPT = bytes(range(0xC0, 0xD8))  # 24 bytes
+assert KEPT.hex() == "c0c1c2c3c4c5c6c7c8c9cacbcccdcecfd0d1d2d3d4d5d6d7"
+# an empty clause is handled
+case(command(acting((5, [])), [(0, 0)], 0, 5, KEPT), "handled 0 0 " + KEPT.hex())
+case(command(acting((5, [])), [(0, 0)], 0, 5, b""), "handled 0 0 -")
+# the clause is found among others; each state has its own
+FOUND = sheet([klass(0)], [], [([], [(1, send(11)), (2, send(12)), (3, [])]), ([], [(2, send(22)), (1, send(21) + go(0))])])
+case(command(FOUND, [(0, 0)], 0, 1, SIX), "handled 0 3 00000ba4a5a6")
+case(command(FOUND, [(0, 0)], 0, 2, SIX), "handled 0 3 00000ca4a5a6")
+case(command(FOUND, [(0, 0)], 0, 3, SIX), "handled 0 0 a1a2a3a4a5a6")
+case(command(FOUND, [(0, 0)], 0, 0, SIX), "ignored 0 0 a1a2a3a4a5a6")
+case(command(FOUND, [(0, 0)], 1, 1, SIX), "handled 0 3 000015a4a5a6")
+case(command(FOUND, [(0, 0)], 1, 2, SIX), "handled 1 3 000016a4a5a6")
+case(command(FOUND, [(0, 0)], 1, 3, SIX), "ignored 1 0 a1a2a3a4a5a6")
+# do: to the children of its pattern, in list order, with their places in the whole list
+PATTERNS = acting((0, send(1, 0) + send(2, 1) + send(3)))
+THREE = [(1, 0), (0, 4), (1, 0)]
+case(command(PATTERNS, THREE, 0, 0, KEPT), "handled 0 18 010001" "000002" "020002" "000003" "010003" "020003" "d2d3d4d5d6d7")
+case(command(PATTERNS, THREE, 0, 0, KEPT[:18]), "handled 0 18 010001000002020002000003010003020003")
+case(command(PATTERNS, THREE, 0, 0, KEPT[:17]), "refused 15 " + KEPT[:17].hex())
+case(command(PATTERNS, THREE, 0, 0, b""), "refused 15 -")
+case(command(PATTERNS, [], 0, 0, b""), "handled 0 0 -")
+case(command(PATTERNS, [(1, 0)], 0, 0, SIX), "handled 0 6 000002000003")
+# places of 256 and over: low byte first
+PLACES = acting((0, send(9, 1)))
+LONG_LIST = [(0, 0)] * 255 + [(1, 0), (1, 0)] + [(0, 0)] * 42 + [(1, 0)]
+case(command(PLACES, LONG_LIST, 0, 0, KEPT), "handled 0 9 ff0009" "000109" "2b0109" + KEPT[9:].hex())
+# 4,096 children: 12,288 bytes, and room for one less
+ALL_SENT = b"".join(u16(place) + b"\x3f" for place in range(4096))
+ROOM = b"\xee" * 12288
+case(command(acting((0, send(63))), [(1, 0)] * 4096, 0, 0, ROOM), "handled 0 12288 " + ALL_SENT.hex())
+case(command(acting((0, send(63))), [(1, 0)] * 4096, 0, 0, ROOM[:-1]), "refused 15 " + ROOM[:-1].hex())
+# move_to ends the clause: what stands behind it is not run
+MOVES = acting((0, send(1) + go(2) + send(2)), (1, go(1)), (2, go(0)))
+case(command(MOVES, [(0, 0)], 0, 0, SIX), "handled 2 3 000001a4a5a6")
+case(command(MOVES, [(0, 0)], 0, 0, SIX[:3]), "handled 2 3 000001")
+case(command(MOVES, [(0, 0)], 0, 1, SIX), "handled 1 0 a1a2a3a4a5a6")
+case(command(MOVES, [(0, 0)], 0, 2, SIX), "handled 0 0 a1a2a3a4a5a6")
+# if: the then-part where the guard is true, else the else-part; then what stands behind both
+BRANCHES = acting((0, send(1) + branch(0, send(2), send(3)) + send(4)))
+case(command(BRANCHES, [(0, 0)], 0, 0, KEPT[:12]), "handled 0 9 000001" "000002" "000004" "c9cacb")
+case(command(BRANCHES, [(0, 1)], 0, 0, KEPT[:12]), "handled 0 9 000001" "000003" "000004" "c9cacb")
+case(command(acting((0, branch(0, [], send(3)))), [(0, 0)], 0, 0, SIX), "handled 0 0 a1a2a3a4a5a6")
+case(command(acting((0, branch(0, [], send(3)))), [(0, 1)], 0, 0, SIX), "handled 0 3 000003a4a5a6")
+# a move_to in a nested part ends the whole clause, not the part alone
+INSIDE = acting((0, branch(0, branch(1, go(2) + send(9)) + send(1), branch(2, [], go(1)) + send(2)) + send(3)))
+case(command(INSIDE, [(0, 0), (0, 1)], 0, 0, KEPT[:12]), "handled 2 0 " + KEPT[:12].hex())
+case(command(INSIDE, [(0, 0)], 0, 0, KEPT[:12]), "handled 0 6 000001000003" + KEPT[6:12].hex())
+case(command(INSIDE, [(0, 3)], 0, 0, KEPT[:12]), "handled 1 0 " + KEPT[:12].hex())
+case(command(INSIDE, [(0, 2)], 0, 0, KEPT[:12]), "handled 0 6 000002000003" + KEPT[6:12].hex())
+# what was sent before a move_to in a part is kept, and the room is that of this run alone
+BEFORE = acting((0, send(1) + branch(0, send(2) + go(1)) + send(3) + send(4) + send(5)))
+case(command(BEFORE, [(0, 0)], 0, 0, SIX), "handled 1 6 000001000002")
+case(command(BEFORE, [(0, 1)], 0, 0, SIX), "refused 15 a1a2a3a4a5a6")
+case(command(BEFORE, [(0, 1)], 0, 0, KEPT[:12]), "handled 0 12 000001000003000004000005")
+
+
+def ladder(n):
+    """Ifs eight deep: each sends n where name n is there and goes on inside, else sends 32 + n; behind its inside it sends 16 + n."""
+    if n == 8:
+        return go(2)
+    return branch(n, send(n, 1) + ladder(n + 1) + send(16 + n, 1), send(32 + n, 1))
+
+
+EIGHT = acting((0, ladder(0) + send(50, 1)))
+accepted(EIGHT)
+
+
+def sent(*commands):
+    """Commands to the child at place 0, the only one of class 1."""
+    return b"".join(bytes([0, 0, m]) for m in commands)
+
+
+FIFTY = b"\xaa" * 60
+for have, commands, q in [
+        ([], [32, 50], 0),
+        ([0], [0, 33, 16, 50], 0),
+        ([0, 1], [0, 1, 34, 17, 16, 50], 0),
+        ([1, 2, 3], [32, 50], 0),
+        ([0, 1, 2, 3, 4, 5, 6], [0, 1, 2, 3, 4, 5, 6, 39, 22, 21, 20, 19, 18, 17, 16, 50], 0),
+        ([0, 1, 2, 3, 4, 5, 6, 7], [0, 1, 2, 3, 4, 5, 6, 7], 2),
+]:
+    got = sent(*commands)
+    children = [(1, 0)] + [(0, n) for n in have]
+    case(command(EIGHT, children, 0, 0, FIFTY), "handled %d %d %s" % (q, len(got), (got + FIFTY[len(got):]).hex()))
+    case(command(EIGHT, children, 0, 0, FIFTY[:len(got)]), "handled %d %d %s" % (q, len(got), got.hex()))
+    case(command(EIGHT, children, 0, 0, FIFTY[:len(got) - 1]), "refused 15 " + FIFTY[:len(got) - 1].hex())
+# the same through else-parts: with no child of class 0 every guard is false
+ELSE = []
+for n in reversed(range(8)):
+    ELSE = branch(n, go(1), send(n) + ELSE)
+case(command(acting((0, ELSE + send(8))), [(1, 0)], 0, 0, FIFTY[:27]), "handled 0 27 " + sent(0, 1, 2, 3, 4, 5, 6, 7, 8).hex())
+case(command(acting((0, ELSE + send(8))), [(0, 7)], 0, 0, FIFTY[:24]), "handled 1 21 " + sent(0, 1, 2, 3, 4, 5, 6).hex() + "aaaaaa")
+case(command(acting((0, ELSE + send(8))), [(0, 0)], 0, 0, b""), "handled 1 0 -")
+# 1,024 statements, each to one child
+case(command(sheet([klass(0)], [], [([], [(0, send(7) * 1024)])]), [(0, 0)], 0, 0, b"\xee" * 3073), "handled 0 3072 " + "000007" * 1024 + "ee")
+case(command(sheet([klass(0)], [], [([], [(0, send(7) * 1024)])]), [(0, 0)], 0, 0, b"\xee" * 3071), "refused 15 " + "ee" * 3071)
+# a state's own clauses and the longest sheet: state 31, command 56 is its eighth clause; guard 1,007 is ALL not in {15} of class 7
+case(command(LONGEST, [(7, 7), (0, 0)], 31, 56, KEPT), "handled 31 3 00003f" + KEPT[3:].hex())
+
+# --------------------------------------------------------------------------------------------------------------------------- the loop question
+
+# 13: a present bit not below K
+case(loop(SMALLEST, 0, b""), "free 0 -")                        # K of 0
+case(loop(SMALLEST, 1, b""), "refused 13 -")
+case(loop(SMALLEST, 128, SIX), "refused 13 a1a2a3a4a5a6")
+EIGHT_CLASSES = sheet([klass(c) for c in range(8)], [], [([], [])])
+case(loop(EIGHT_CLASSES, 255, bytes(16)), "free 0 " + "00" * 16)
+case(loop(EIGHT_CLASSES, 255, bytes(15)), "refused 15 " + "00" * 15)
+case(loop(sheet([klass(0)] * 7, [], [([], [])]), 128, bytes(16)), "refused 13 " + "00" * 16)
+case(loop(sheet([klass(0)] * 7, [], [([], [])]), 127, bytes(14)), "free 0 " + "00" * 14)
+# the last name of the last class
+LAST_CELL = sheet([klass(c) for c in range(7)] + [klass(31)], [atom(ANY_IN, 7, 31)], [([when(0, MOVE_TO, 0)], [])])
+case(loop(LAST_CELL, 128, SIX), "loop 1 0 071fa3a4a5a6")
+case(loop(LAST_CELL, 255, bytes(16)), "loop 255 0 " "0000" "0101" "0202" "0303" "0404" "0505" "0606" "071f")
+case(loop(LAST_CELL, 127, bytes(14)), "free 0 " + "00" * 14)
+# no class present: the empty list is the one configuration
+case(loop(OWN, 0, b""), "loop 0 0 -")
+case(loop(OWN, 0, SIX), "loop 0 0 a1a2a3a4a5a6")
+case(loop(RING, 0, b""), "loop 0 0 -")
+case(loop(INTO, 0, b""), "loop 0 1 -")                          # 0 leads into the loop and does not return to itself
+case(loop(OWN_THREE, 0, b""), "loop 0 1 -")
+case(loop(CHAIN, 0, b""), "free 31 -")                          # S - 1 moves
+case(loop(CHAIN_STAY, 0, b""), "free 31 -")
+case(loop(CHAIN_DO, 0, b""), "free 31 -")
+case(loop(DOWN, 0, b""), "free 31 -")
+# the smallest state that returns to itself: 2, 3 and 4 do, 0 and 1 lead there
+TWO_LOOPS = sheet([], [ALWAYS], [([when(0, MOVE_TO, t)], []) for t in (4, 0, 2, 4, 3)])
+case(loop(TWO_LOOPS, 0, b""), "loop 0 2 -")
+# 3 and 4 do, the others lead there
+TAIL = sheet([], [ALWAYS], [([when(0, MOVE_TO, t)], []) for t in (1, 3, 0, 4, 3)])
+case(loop(TAIL, 0, b""), "loop 0 3 -")
+# a loop through a clause that an earlier true clause hides is none
+HIDDEN = sheet([klass(0, 1)], [X, Y], [([when(0, STAY), when(1, MOVE_TO, 1)], []), ([when(0, MOVE_TO, 0)], [])])
+case(loop(HIDDEN, 1, SIX), "free 1 a1a2a3a4a5a6")
+SHOWN = sheet([klass(0, 1)], [X, Y], [([when(1, MOVE_TO, 1), when(0, STAY)], []), ([when(0, MOVE_TO, 0)], [])])
+case(loop(SHOWN, 1, SIX), "loop 3 0 00000001a5a6")
+# a class of one name: present, its only configuration is 1; with none present the loop is gone
+SINGLE = sheet([klass(31)], [atom(ANY_IN, 0, 31)], [([when(0, MOVE_TO, 0)], [])])
+case(loop(SINGLE, 1, SIX), "loop 1 0 001fa3a4a5a6")
+case(loop(SINGLE, 1, SIX[:2]), "loop 1 0 001f")
+case(loop(SINGLE, 1, SIX[:1]), "refused 15 a1")
+case(loop(SINGLE, 0, b""), "free 0 -")
+# numbers in which a present class is empty are skipped: the loop wants class 1 without children
+EMPTY = sheet([klass(0, 5), klass(3)], [AND, atom(ALL_IN, 1, 0), atom(ANY_IN, 0, 5)], [([when(0, MOVE_TO, 0)], [])])
+case(loop(EMPTY, 3, SIX), "free 0 a1a2a3a4a5a6")
+case(loop(EMPTY, 1, SIX), "loop 2 0 0005a3a4a5a6")
+case(loop(EMPTY, 2, SIX), "free 0 a1a2a3a4a5a6")
+# bits: the names of the lowest present class in rising order, then the next present class. Classes 1 {2, 9, 30} and 3 {0, 31}:
+# 30 of class 1 is bit 2, 31 of class 3 is bit 4
+BITS = sheet(
+    [klass(0), klass(2, 9, 30), klass(7), klass(0, 31)], [AND, atom(ANY_IN, 1, 30), atom(ANY_IN, 3, 31)],
+    [([when(0, MOVE_TO, 1)], []), ([when(0, MOVE_TO, 1)], []), ([when(0, MOVE_TO, 0)], [])])
+TEN = bytes(range(0x51, 0x5B))
+case(loop(BITS, 10, TEN), "loop 20 1 " "011e" "031f" + TEN[4:].hex())
+case(loop(BITS, 10, TEN[:9]), "refused 15 " + TEN[:9].hex())
+case(loop(BITS, 26, TEN), "refused 13 " + TEN.hex())
+# with classes 0 and 2 present too they are bits 0 and 4, and the others are 1 to 3 and 5, 6: both lists begin with the lowest classes
+FOURTEEN = bytes(range(0x51, 0x5F))
+case(loop(BITS, 15, FOURTEEN), "loop %d 1 " % (1 + 8 + 16 + 64) + "0000" "011e" "0207" "031f" + FOURTEEN[8:].hex())
+case(loop(BITS, 15, FOURTEEN[:13]), "refused 15 " + FOURTEEN[:13].hex())
+# all children: the present ones. Loop where all are in name 1: the class with name 0 alone is not present
+THOSE = sheet([klass(0), klass(1)], [atom(ALL_IN, EVERYONE, 1)], [([when(0, MOVE_TO, 0)], [])])
+case(loop(THOSE, 3, SIX), "free 0 a1a2a3a4a5a6")
+case(loop(THOSE, 2, SIX), "loop 1 0 0101a3a4a5a6")
+case(loop(THOSE, 1, SIX), "free 0 a1a2a3a4a5a6")
+case(loop(THOSE, 0, b""), "loop 0 0 -")
+# "ANY not in" is not the opposite of "ANY in", and one child per class is not enough: the loop wants two children
+case(loop(sheet([klass(4, 6)], [atom(ANY_IN, 0, 4), atom(ANY_NOT_IN, 0, 4)], [([when(0, MOVE_TO, 1)], []), ([when(1, MOVE_TO, 0)], [])]), 1, SIX),
+     "loop 3 0 00040006a5a6")
+# every state is a start: only 2 and 3 go round
+case(loop(sheet([klass(0)], [X], [([], []), ([], []), ([when(0, MOVE_TO, 3)], []), ([when(0, MOVE_TO, 2)], [])]), 1, SIX), "loop 1 2 0000a3a4a5a6")
+# the largest number of moves is reached in one configuration and from one state alone: name 0 alone lets 1 -> 2 -> 3, name 1 stops it
+LONGEST_WAY = sheet([klass(0, 1)], [Y, X], [([], []), ([when(0, STAY), when(1, MOVE_TO, 2)], []), ([when(1, MOVE_TO, 3)], []), ([], [])])
+case(loop(LONGEST_WAY, 1, SIX), "free 2 a1a2a3a4a5a6")
+# S of 32: with name n the node goes from n to n + 1. The chain of 31 moves wants every name: N of 5, moves only through the five
+FIVE = sheet(
+    [klass(0, 1, 2, 3, 4)], [atom(ANY_IN, 0, n) for n in range(5)],
+    [([when(q % 5, MOVE_TO, q + 1)], []) for q in range(31)] + [([], [])])
+case(loop(FIVE, 1, TEN), "free 31 " + TEN.hex())
+# the ring of 32 closes in the last configuration alone
+FIVE_RING = sheet([klass(0, 1, 2, 3, 4)], [atom(ANY_IN, 0, n) for n in range(5)], [([when(q % 5, MOVE_TO, (q + 1) % 32)], []) for q in range(32)])
+case(loop(FIVE_RING, 1, TEN), "loop 31 0 " "00000001000200030004")
+# N of 20 is answered, 21 is refused
+TWENTY = sheet([klass(*range(20))], [], [([], [])])
+FORTY = b"\x77" * 40
+case(loop(TWENTY, 1, FORTY), "free 0 " + FORTY.hex())
+case(loop(TWENTY, 1, FORTY[:39]), "refused 15 " + FORTY[:39].hex())
+case(loop(TWENTY_ONE, 1, b"\x77" * 42), "refused 14 " + "77" * 42)
+case(loop(sheet([klass(*range(32))] * 8, [], [([], [])]), 255, b""), "refused 14 -")
+SPLIT = [klass(*range(7)), klass(*range(8, 15)), klass(*range(16, 23))]
+case(loop(sheet(SPLIT, [], [([], [])]), 7, FORTY), "refused 14 " + FORTY.hex())   # 21 in three classes
+
+
+def every_name(atoms):
+    """The and of all these atoms, as a tree that is no deeper than it must be."""
+    if len(atoms) == 1:
+        return atoms
+    half = len(atoms) // 2
+    return [AND] + every_name(atoms[:half]) + every_name(atoms[half:])
+
+
+# a loop in the last configuration alone: every one of 20 names is wanted
+LAST_OF_ALL = sheet([klass(*range(12, 32))], every_name([atom(ANY_IN, 0, n) for n in range(12, 32)]), [([when(0, MOVE_TO, 0)], [])])
+case(loop(LAST_OF_ALL, 1, FORTY), "loop 1048575 0 " + "".join("00%02x" % n for n in range(12, 32)))
+# 20 names in two classes, free: 1 -> 0 where a child of class 1 is in name 9
+FREE_TWENTY = sheet([klass(*range(10)), klass(*range(10))], [atom(ANY_IN, 1, 9)], [([], []), ([when(0, MOVE_TO, 0)], [])])
+case(loop(FREE_TWENTY, 3, FORTY), "free 1 " + FORTY.hex())
+# of 21 names 20 are present
+TWENTY_OF = sheet([klass(0), klass(*range(20))], [atom(ANY_IN, 1, 2)], [([when(0, MOVE_TO, 0)], [])])
+case(loop(TWENTY_OF, 3, FORTY), "refused 14 " + FORTY.hex())
+case(loop(TWENTY_OF, 2, FORTY), "loop 4 0 0102" + FORTY[2:].hex())
+case(loop(TWENTY_OF, 1, FORTY), "free 0 " + FORTY.hex())
+
+# --------------------------------------------------------------------------------------------------------------------------- lines that are no questions
+
+for line in [
+        "", " ", "judge", "judge ", "judge  00", "judge 00 ", " judge 00", "judge 00 00", "judges 00", "judg 00", "Judge 00", "judge 0", "judge 000",
+        "judge 0G", "judge 0A", "judge 0x00", "judge --", "judge -0", "judge 00-", "judge 00\r", "judge\t00", "judge /0", "judge 0:", "judge 0`", "judge g0",
+        "probe 00 -", "probe 00 - 0 0", "probe 00 -  0", "probe 00 - 256", "probe 00 - 1000", "probe 00 - 00", "probe 00 - 01", "probe 00 - 007", "probe 00 - -1",
+        "probe 00 - +1", "probe 00 - 1a", "probe 00 - a", "probe 00 - ", "probe 00  0", "probe  - 0", "probe 00 0 0", "probe 0 - 0", "probe 00 - 999",
+        "probe 00 - 0/", "probe 00 - 2:", "probe 00 - 300", "probe 00 - 18446744073709551616", "phase 00 -", "phase 00 - 0 0", "phase 00 - x", "phase zz - 0",
+        "command 00 - 0 0", "command 00 - 0 0 - -", "command 00 - 256 0 -", "command 00 - 0 256 -", "command 00 - 0 0 0", "command 00 - 0 0 ", "command 00 - 0 00 -",
+        "command 00 0 0 0 -", "command 0 - 0 0 -", "loop 00 0", "loop 00 0 - -", "loop 00 256 -", "loop 00 - -", "loop 00 0 0", "loop x 0 -", "loop 00 0  ", "free 0", "accepted"]:
+    case(line, "bad line")
+# the same forms, right
+for line, answer in [
+        ("judge 00", "refused 1"), ("judge -", "refused 1"), ("judge 0123456789abcdef", "refused 1"), ("probe 00 - 0", "refused 1"), ("probe 00 - 255", "refused 1"),
+        ("probe - - 10", "refused 1"), ("phase 00 00 100", "refused 1"), ("phase 00 - 99", "refused 1"), ("command - - 0 0 -", "refused 1 -"),
+        ("command - 00 255 255 00ff", "refused 1 00ff"), ("loop - 0 -", "refused 1 -"), ("loop 00 255 0123456789abcdef", "refused 1 0123456789abcdef")]:
+    case(line, answer)
+# a line of 262,144 bytes is read, one of 262,145 is not, and the line behind it is answered
+case("judge " + "ab" * 131069, "refused 1")
+assert len(QUESTIONS[-1]) == 262144
+case("judge " + "ab" * 131069 + "c", "bad line")
+case("judge " + SMALLEST.hex(), "accepted")
+case("x" * 300000, "bad line")
+case(probe(SMALLEST, [], 0), "none")
+
+# --------------------------------------------------------------------------------------------------------------------------- the files
+
+
+def main():
+    to = os.path.join(os.path.dirname(os.path.abspath(__file__)), "..", "crates", "questions")
+    with open(os.path.join(to, "stdin"), "w", newline="\n") as f:
+        f.write("\n".join(QUESTIONS))    # the last line has no line feed, and is answered all the same
+    with open(os.path.join(to, "stdout"), "w", newline="\n") as f:
+        f.write("\n".join(ANSWERS) + "\n")
+    print("%d cases" % len(QUESTIONS))
+
+
+main()
