@@ -14,7 +14,7 @@ use Rattle.model.specs.declared.Refusal.{Refusal}
 use Rattle.model.specs.declared.Refusal.the-variants.{SheetLength, Contents, EmptyNameSet, ClauseCounts, GuardLayout, GuardReach, Target, ActionClause, Statement, ChildList, AskedState, AskedCommand, PresentBit, NameCount, Room}
 use Rattle.model.proofs.Words.{passed, not-passed}
 use Rattle.sheet.specs.Contents.{bodies, body}
-use Rattle.sheet.specs.Clauses.{in-fours}
+use Rattle.bodies.specs.Clauses.{in-fours}
 use Rattle.sheet.specs.Rules.{refusal}
 use Rattle.sheet.specs.Reading.{class-of}
 use Rattle.sheet.specs.ChildList.{children-of, list-right}

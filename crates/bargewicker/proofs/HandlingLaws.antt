@@ -8,9 +8,9 @@ use Rattle.model.specs.Commands.{command}
 use Rattle.model.specs.declared.OwnState.{OwnState}
 use Rattle.sheet.specs.Reading.{class-of}
 use Rattle.sheet.specs.ChildList.{children-of}
-use Rattle.node.specs.Commands.{HandlesAs}
-use Rattle.node.specs.declared.commands.Handling.{Handling}
-use Rattle.node.specs.declared.commands.Handling.the-variants.{Ignored, Handled, Short}
+use Rattle.commands.specs.Commands.{HandlesAs}
+use Rattle.commands.specs.declared.Handling.{Handling}
+use Rattle.commands.specs.declared.Handling.the-variants.{Ignored, Handled, Short}
 use Rattle.bargewicker.specs.Questions.{Reply, placed, command-in}
 use Rattle.bargewicker.specs.Numbers.{Answered}
 use Rattle.bargewicker.proofs.BufferLaws.{answer-ignored, answer-handled, answer-short}

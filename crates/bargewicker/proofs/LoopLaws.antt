@@ -12,7 +12,7 @@ use Rattle.model.specs.Crews.{child-classes}
 use Rattle.model.specs.declared.OwnState.{OwnState}
 use Rattle.model.proofs.Words.{passed, not-passed}
 use Rattle.sheet.specs.Contents.{bodies, body}
-use Rattle.sheet.specs.Clauses.{in-fours}
+use Rattle.bodies.specs.Clauses.{in-fours}
 use Rattle.sheet.specs.Reading.{class-of}
 use Rattle.sheet.specs.ChildList.{pairs, written}
 use Rattle.sheet.specs.Judgement.{Stands}

@@ -9,9 +9,9 @@ use Rattle.model.specs.declared.Refusal.{Refusal}
 use Rattle.model.specs.declared.OwnState.{OwnState}
 use Rattle.model.proofs.Words.{clash}
 use Rattle.model.proofs.Refusals.{same-number}
-use Rattle.sheet.specs.Referrers.{reads-as}
-use Rattle.sheet.specs.declared.clauses.Referrer.{Referrer}
-use Rattle.sheet.specs.declared.clauses.Referrer.the-variants.{MoveTo, Do, Stay}
+use Rattle.bodies.specs.Referrers.{reads-as}
+use Rattle.bodies.specs.declared.clauses.Referrer.{Referrer}
+use Rattle.bodies.specs.declared.clauses.Referrer.the-variants.{MoveTo, Do, Stay}
 use Rattle.node.specs.Probing.{ending-as}
 use Rattle.node.specs.declared.probing.Ending.{Ending}
 use Rattle.node.specs.declared.probing.Ending.the-variants.{ByNone, ByStay, ByDo}

@@ -3,7 +3,7 @@
 use Prim.Native.Nat.{ℕ}
 use mathlib.Core.List.{List, [], _∷_}
 use Rattle.model.specs.Refusals.{number-of}
-use Rattle.sheet.specs.Referrers.{reads-as}
+use Rattle.bodies.specs.Referrers.{reads-as}
 use Rattle.node.specs.Probing.{ending-as}
 use Rattle.bargewicker.specs.Numbers.{referrer-numbers, settled-numbers}
 use Rattle.bargewicker.specs.declared.Judgement.{Judgement}

@@ -1,19 +1,19 @@
 // The face: the five questions on bytes and numbers. Each gets an answer for any input; nothing is asked of the caller beforehand, and
 // a refusal writes no byte into a lent buffer. What each answer means is in specs/: Questions.antt and Answers.antt.
+use bodies::clauses::Referrer;
+use commands::Handling;
+use commands::handle;
 use loops::cells::read_cells;
 use loops::search::Answer;
 use loops::search::search;
 use loops::search::write_list;
 use model::OwnState;
 use model::Refusal;
-use node::commands::Handling;
-use node::commands::handle;
 use node::crews::occupy;
 use node::lists::list_ok;
 use node::phases::Phase;
 use node::probing::Ending;
 use node::probing::Probed;
-use sheet::clauses::Referrer;
 use sheet::judging::Judged;
 use sheet::judging::Places;
 use sheet::readers::CLASSES;

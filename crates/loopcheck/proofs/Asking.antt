@@ -10,7 +10,7 @@ use Rattle.model.specs.Refusals.{number-of}
 use Rattle.model.specs.declared.Refusal.{Refusal}
 use Rattle.model.proofs.Words.{length-listed}
 use Rattle.sheet.specs.Contents.{bodies, body}
-use Rattle.sheet.specs.Clauses.{in-fours, name-set}
+use Rattle.bodies.specs.Clauses.{in-fours, name-set}
 use Rattle.sheet.specs.Reading.{class-in, class-of}
 use Rattle.sheet.specs.Judgement.{judged-numbers, judgement}
 use Rattle.sheet.specs.declared.judging.Judged.{Judged}

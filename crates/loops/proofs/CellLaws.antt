@@ -16,8 +16,8 @@ use Rattle.model.specs.Words.{has, each, kept, keep, listed, some-in}
 use Rattle.model.specs.Tree.{Child}
 use Rattle.model.specs.Crews.{occupied}
 use Rattle.model.proofs.Words.{length-listed, getD-listed, each-broken, each-so-far, each-all, true-not-false}
-use Rattle.sheet.specs.Clauses.{in-fours, name-set}
-use Rattle.sheet.proofs.Bits.{has-none}
+use Rattle.bodies.specs.Clauses.{in-fours, name-set}
+use Rattle.bodies.proofs.Bits.{has-none}
 use Rattle.node.specs.Sets.{Shows}
 use Rattle.node.proofs.CrewLaws.{shifted, shows-more}
 use Rattle.loops.specs.Configurations.{cell, chosen}

@@ -16,11 +16,11 @@ use Rattle.model.specs.Crews.{child-classes, in-class, belongs, occurs, all-occ
 use Rattle.model.proofs.Words.{both-ways, lt-or-le, true-not-false, each-intro, each-elim, some-in-intro, some-in-elim}
 use Rattle.model.proofs.Occupancy.{mem-occupied, occupied-mem}
 use Rattle.sheet.specs.Contents.{body, bodies}
-use Rattle.sheet.specs.Clauses.{in-fours, name-set}
+use Rattle.bodies.specs.Clauses.{in-fours, name-set}
 use Rattle.sheet.specs.Reading.{class-of}
 use Rattle.sheet.specs.Judgement.{Stands}
 use Rattle.sheet.specs.declared.judging.Places.{Places}
-use Rattle.sheet.proofs.Bits.{has-none, some-bit}
+use Rattle.bodies.proofs.Bits.{has-none, some-bit}
 use Rattle.sheet.proofs.Contents.{class-count-most}
 use Rattle.sheet.proofs.Reading.{child-classes-in, name-set-in}
 use Rattle.sheet.proofs.ReaderLaws.{stands-right}

@@ -19,9 +19,9 @@ use Rattle.model.specs.declared.OwnState.{OwnState}
 use Rattle.model.proofs.Words.{clash, true-not-false, not-not-true, lt-or-le, below-next, some-below-intro, some-below-elim, least-some, least-none}
 use Rattle.model.proofs.Moves.{after-none, after-some, after-zero, after-add, after-ended}
 use Rattle.model.proofs.Phase.{stops-next, moves-next, next-within}
-use Rattle.sheet.specs.Bytes.{Bytes}
+use Rattle.bodies.specs.Bytes.{Bytes}
 use Rattle.sheet.specs.Contents.{body, bodies}
-use Rattle.sheet.specs.Clauses.{in-fours}
+use Rattle.bodies.specs.Clauses.{in-fours}
 use Rattle.sheet.specs.Reading.{class-of}
 use Rattle.sheet.specs.Judgement.{Stands}
 use Rattle.sheet.specs.declared.judging.Places.{Places}

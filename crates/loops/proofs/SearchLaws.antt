@@ -20,12 +20,12 @@ use Rattle.model.specs.Node.{own-states, next}
 use Rattle.model.specs.Crews.{child-classes}
 use Rattle.model.proofs.Words.{length-listed}
 use Rattle.sheet.specs.Contents.{body}
-use Rattle.sheet.specs.Clauses.{in-fours}
+use Rattle.bodies.specs.Clauses.{in-fours}
 use Rattle.sheet.specs.ChildList.{pairs, written}
 use Rattle.sheet.specs.Reading.{class-of}
 use Rattle.sheet.specs.Judgement.{Stands}
 use Rattle.sheet.specs.declared.judging.Places.{Places}
-use Rattle.sheet.proofs.Bits.{has-half}
+use Rattle.bodies.proofs.Bits.{has-half}
 use Rattle.node.specs.Sets.{Small}
 use Rattle.node.proofs.BitLaws.{has-zero}
 use Rattle.node.proofs.CrewLaws.{shifted}

@@ -8,7 +8,7 @@ use lib.Dec.{eqb, ltb}
 use lib.ListN.{length, getD}
 use Rattle.model.specs.Words.{has, each, keep, listed}
 use Rattle.model.specs.Tree.{Child}
-use Rattle.sheet.specs.Clauses.{in-fours, name-set}
+use Rattle.bodies.specs.Clauses.{in-fours, name-set}
 use Rattle.node.specs.Sets.{Shows}
 use Rattle.loops.specs.Configurations.{cell}
 use Rattle.loops.specs.declared.cells.Cells.{Cells}

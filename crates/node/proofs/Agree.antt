@@ -14,9 +14,9 @@ use Rattle.model.specs.Guards.{concerns, any-of, all-of, named-in, atom-holds, 
 use Rattle.model.proofs.Words.{true-not-false, both-ways, and-left, and-right, and-both, not-not-true, lt-or-le, each-intro, each-elim, some-below-intro, some-below-elim, every-elim, every-intro, some-in-elim, some-in-intro}
 use Rattle.model.proofs.Occupancy.{mem-occupied, occupied-mem}
 use Rattle.sheet.specs.Contents.{Bodies}
-use Rattle.sheet.specs.GuardRecords.{Read, got, broken, by-read, guard-from}
+use Rattle.bodies.specs.GuardRecords.{Read, got, broken, by-read, guard-from}
 use Rattle.sheet.specs.Reading.{guard-in}
-use Rattle.sheet.proofs.Bits.{has-none}
+use Rattle.bodies.proofs.Bits.{has-none}
 use Rattle.node.specs.Sets.{Shows, Small, seen, atom-in, holds-in}
 use Rattle.node.specs.Values.{truth-of}
 

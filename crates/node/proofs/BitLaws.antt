@@ -11,7 +11,7 @@ use lib.Pow.{pow-pos}
 use borrow.Author.Tests.{eq-eqb, eqb-true}
 use Rattle.model.specs.Words.{has, each, some-below}
 use Rattle.model.proofs.Words.{both-ways, each-intro, each-elim, true-not-false}
-use Rattle.sheet.proofs.Bits.{has-half, has-none}
+use Rattle.bodies.proofs.Bits.{has-half, has-none}
 
 -- bit 0 is the digit 1
 pub has-zero : (s : ℕ) → has s 0 ≡ eqb (s % 2) 1

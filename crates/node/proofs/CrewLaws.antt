@@ -18,8 +18,8 @@ use Rattle.model.specs.Tree.{Child}
 use Rattle.model.specs.Crews.{occupied}
 use Rattle.model.proofs.Words.{and-left, and-right, true-not-false}
 use Rattle.sheet.specs.ChildList.{children-of}
-use Rattle.sheet.specs.GuardRecords.{pattern-of}
-use Rattle.sheet.proofs.Bits.{has-none}
+use Rattle.bodies.specs.GuardRecords.{pattern-of}
+use Rattle.bodies.proofs.Bits.{has-none}
 use Rattle.node.specs.Sets.{Shows, Names, seen, union-of}
 use Rattle.node.proofs.BitLaws.{has-or, has-pow}
 

@@ -5,8 +5,3 @@ pub mod Agree
 pub mod ListLaws
 pub mod ProbeLaws
 pub mod PhaseLaws
-pub mod SendLaws
-pub mod ReadLaws
-pub mod RunLaws
-pub mod ClauseLaws
-pub mod HandleLaws

@@ -14,7 +14,7 @@ use Rattle.model.specs.Tree.{Child}
 use Rattle.model.specs.Crews.{child-classes, in-class}
 use Rattle.model.proofs.Words.{and-left, and-right, and-both, not-not-true, true-not-false, lt-or-le, every-elim}
 use Rattle.sheet.specs.Contents.{Bodies, body, bodies}
-use Rattle.sheet.specs.Clauses.{in-fours, name-set}
+use Rattle.bodies.specs.Clauses.{in-fours, name-set}
 use Rattle.sheet.specs.ChildList.{children-of, list-right}
 use Rattle.sheet.specs.Reading.{class-in, class-of}
 use Rattle.sheet.specs.Rules.{Accepted}

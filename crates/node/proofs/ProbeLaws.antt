@@ -15,18 +15,18 @@ use Rattle.model.specs.Node.{state-of, nothing, found, first-true, probe, comma
 use Rattle.model.specs.Sound.{ReferrerRight}
 use Rattle.model.proofs.Words.{true-not-false, lt-or-le, below-next, least-some, least-none}
 use Rattle.model.proofs.Phase.{getD-mem, probe-found}
-use Rattle.sheet.specs.Bytes.{byte}
+use Rattle.bodies.specs.Bytes.{byte}
 use Rattle.sheet.specs.Contents.{body, bodies}
-use Rattle.sheet.specs.Clauses.{in-fours, when-count, action-count, first-action, guard-place, referrer-number, target, action-command}
-use Rattle.sheet.specs.GuardRecords.{guard-from}
+use Rattle.bodies.specs.Clauses.{in-fours, when-count, action-count, first-action, guard-place, referrer-number, target, action-command, referrer-of}
+use Rattle.bodies.specs.GuardRecords.{guard-from}
 use Rattle.sheet.specs.Judgement.{Stands}
-use Rattle.sheet.specs.Reading.{referrer-of, when-in, action-in, state-in, class-in, class-of}
-use Rattle.sheet.specs.Referrers.{reads-as}
+use Rattle.sheet.specs.Reading.{when-in, action-in, state-in, class-in, class-of}
+use Rattle.bodies.specs.Referrers.{reads-as}
 use Rattle.sheet.specs.Runs.{RunIs}
 use Rattle.sheet.specs.declared.judging.Places.{Places}
 use Rattle.sheet.specs.declared.readers.Run.{Run}
-use Rattle.sheet.specs.declared.clauses.Referrer.the-variants.{MoveTo, Do, Stay}
-use Rattle.sheet.specs.declared.clauses.Referrer.{Referrer}
+use Rattle.bodies.specs.declared.clauses.Referrer.the-variants.{MoveTo, Do, Stay}
+use Rattle.bodies.specs.declared.clauses.Referrer.{Referrer}
 use Rattle.sheet.proofs.Contents.{states-length}
 use Rattle.sheet.proofs.ReaderLaws.{stands-right}
 use Rattle.sheet.proofs.Rules.{accepted-right}

@@ -12,9 +12,9 @@ use lib.ListN.{length}
 use Rattle.model.specs.Words.{has, each, some-below}
 use Rattle.model.specs.Tree.{Guard, both, either, opposite}
 use Rattle.model.proofs.Words.{clash}
-use Rattle.sheet.specs.Bytes.{byte, u32, record-at}
-use Rattle.sheet.specs.GuardRecords.{pattern-of, Read, got, broken, Shape, leaf, two, one, unknown, shape, shaped, guard-at, guard-from}
-use Rattle.sheet.proofs.GuardLaws.{kind-of, joins, shape-leaf, shape-two, shape-one, shape-unknown, operand, operand-none, operand-some, read-past, read-as}
+use Rattle.bodies.specs.Bytes.{byte, u32, record-at}
+use Rattle.bodies.specs.GuardRecords.{pattern-of, Read, got, broken, Shape, leaf, two, one, unknown, shape, shaped, guard-at, guard-from}
+use Rattle.bodies.proofs.GuardLaws.{kind-of, joins, shape-leaf, shape-two, shape-one, shape-unknown, operand, operand-none, operand-some, read-past, read-as}
 use Rattle.node.specs.Sets.{Names, atom-in, holds-in}
 use Rattle.node.specs.Values.{value-of, atom-value, truth-of, Operator}
 use Rattle.node.specs.declared.values.Value.the-variants.{Holds, Broken}

@@ -3,4 +3,3 @@ pub mod Values
 pub mod Lists
 pub mod Probing
 pub mod Phases
-pub mod Commands

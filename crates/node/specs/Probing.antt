@@ -9,10 +9,10 @@ use Rattle.model.specs.Words.{maybe, least}
 use Rattle.model.specs.Tree.{Child}
 use Rattle.model.specs.Node as Tree
 use Rattle.sheet.specs.Contents.{body}
-use Rattle.sheet.specs.Clauses.{guard-place}
-use Rattle.sheet.specs.GuardRecords.{guard-from}
+use Rattle.bodies.specs.Clauses.{guard-place}
+use Rattle.bodies.specs.GuardRecords.{guard-from}
 use Rattle.sheet.specs.Reading.{class-of}
-use Rattle.sheet.specs.Referrers.{reads-as}
+use Rattle.bodies.specs.Referrers.{reads-as}
 use Rattle.node.specs.Sets.{Shows, Small}
 use Rattle.node.specs.Values.{truth-of}
 use Rattle.node.specs.declared.probing.Probed.{Probed}

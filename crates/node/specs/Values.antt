@@ -6,8 +6,8 @@ use mathlib.Core.Bool.{Bool, false}
 use mathlib.Core.List.{List, [], _∷_}
 use lib.ListN.{length, getD}
 use Rattle.model.specs.Tree.{any-in, any-not-in, all-in, all-not-in}
-use Rattle.sheet.specs.Bytes.{byte, record-at}
-use Rattle.sheet.specs.GuardRecords.{Read, got, broken, pattern-of}
+use Rattle.bodies.specs.Bytes.{byte, record-at}
+use Rattle.bodies.specs.GuardRecords.{Read, got, broken, pattern-of}
 use Rattle.node.specs.Sets.{atom-in, holds-in}
 use Rattle.node.specs.declared.values.Value.{Value}
 use Rattle.node.specs.declared.values.Value.the-variants.{Holds, Broken}

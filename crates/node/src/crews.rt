@@ -5,7 +5,7 @@ ghost use mathlib.Core.Path.{_≡_};
 ghost use Prim.Native.Nat.{_^_, _<_};
 ghost use lib.Bits.{bitOr};
 ghost use Rattle.model.specs.Words.{has};
-ghost use Rattle.sheet.specs.GuardRecords.{pattern-of};
+ghost use Rattle.bodies.specs.GuardRecords.{pattern-of};
 ghost use Rattle.sheet.specs.ChildList.{children-of};
 ghost use Rattle.node.specs.Sets.{Shows, union-of, Names};
 

@@ -1,5 +1,4 @@
-// The node: guards evaluated on one name set per class, the probe, the when phase and the handling of a command on an accepted sheet.
-pub mod commands;
+// The node: guards evaluated on one name set per class, the probe and the when phase on an accepted sheet.
 pub mod crews;
 pub mod lists;
 pub mod phases;

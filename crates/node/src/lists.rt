@@ -1,8 +1,8 @@
 // Child lists: pairs of bytes (class, name), checked against the sheet's child classes.
 use crate::crews::has_name;
+use bodies::clauses::name_set;
 use model::ChildClass;
 use model::ChildName;
-use sheet::clauses::name_set;
 ghost use mathlib.Core.Path.{_≡_};
 ghost use Prim.Native.Nat.{_≤_};
 ghost use lib.ListN.{length};

@@ -1,10 +1,10 @@
 // The probe: the first clause of a state whose guard is true.
 use crate::values::guard_true;
+use bodies::clauses::Referrer;
+use bodies::clauses::action_command;
+use bodies::clauses::guard_place;
+use bodies::clauses::referrer_at;
 use model::OwnState;
-use sheet::clauses::Referrer;
-use sheet::clauses::action_command;
-use sheet::clauses::guard_place;
-use sheet::clauses::referrer_at;
 use sheet::judging::Places;
 use sheet::readers::ACTION_CLAUSES;
 use sheet::readers::ACTIONS;
@@ -16,7 +16,7 @@ use sheet::readers::clauses_of;
 ghost use mathlib.Core.Path.{_≡_};
 ghost use Prim.Native.Nat.{_+_, _<_, _≤_};
 ghost use Rattle.sheet.specs.Contents.{body};
-ghost use Rattle.sheet.specs.Clauses.{first-action, action-command};
+ghost use Rattle.bodies.specs.Clauses.{first-action, action-command};
 ghost use Rattle.sheet.specs.Judgement.{Stands};
 ghost use Rattle.node.specs.Probing.{clause-true, first-hit, Probes, Turns};
 

@@ -1,11 +1,11 @@
 // The evaluator of guards on name sets: it calls itself on each operand.
 use crate::crews::occupied_names;
-use sheet::words::byte_at;
-use sheet::words::record_at;
-use sheet::words::u32_at;
+use bodies::words::byte_at;
+use bodies::words::record_at;
+use bodies::words::u32_at;
 ghost use mathlib.Core.Path.{_≡_};
 ghost use Prim.Native.Nat.{_≤_};
-ghost use Rattle.sheet.specs.GuardRecords.{guard-at, guard-from};
+ghost use Rattle.bodies.specs.GuardRecords.{guard-at, guard-from};
 ghost use Rattle.node.specs.Values.{value-of, atom-value, truth-of, Operator};
 
 // A guard's truth with the record after it, or it is broken.

@@ -11,10 +11,10 @@ use lib.ListN.{length, drop, length-take, length-drop}
 use borrow.Author.Tests.{eqb-true, leb-true}
 use Rattle.model.specs.Words.{each}
 use Rattle.model.proofs.Words.{and-left, and-right, each-elim}
-use Rattle.sheet.specs.Bytes.{Bytes}
+use Rattle.bodies.specs.Bytes.{Bytes}
 use Rattle.sheet.specs.Contents.{record-bytes, fewest, most, start, size, body, length-right, bodies-follow, count-right, counts-in-range, contents-right, bodies}
-use Rattle.sheet.specs.Clauses.{in-fours, in-eights}
-use Rattle.sheet.proofs.Bytes.{take-bytes, drop-bytes}
+use Rattle.bodies.specs.Clauses.{in-fours, in-eights}
+use Rattle.bodies.proofs.Bytes.{take-bytes, drop-bytes}
 
 -- a body of a byte string is a byte string
 pub body-bytes : (b : List ℕ) → Bytes b → (k : ℕ) → Bytes (body b k)

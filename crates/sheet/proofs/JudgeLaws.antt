@@ -15,8 +15,9 @@ use Rattle.model.proofs.Words.{clash, and-right, lt-or-le, each-broken}
 use Rattle.model.proofs.Refusals.{same-number}
 use Rattle.model.specs.declared.Refusal.{Refusal}
 use Rattle.sheet.specs.Contents.{record-bytes, start, size, body, length-right, bodies-follow, counts-in-range, contents-right, Bodies, bodies}
-use Rattle.sheet.specs.Clauses.{in-fours, in-eights, count-sum}
-use Rattle.sheet.specs.Rules.{classes-right, counts-right, records-right, guards-right, targets-right, actions-plain, commands-apart, actions-right, statements-right, checked, refusal-in, refusal}
+use Rattle.bodies.specs.Clauses.{in-fours, in-eights, count-sum}
+use Rattle.sheet.specs.Rules.{checked, refusal-in, refusal}
+use Rattle.bodies.specs.BodyRules.{classes-right, counts-right, records-right, guards-right, targets-right, actions-plain, commands-apart, actions-right, statements-right}
 use Rattle.sheet.specs.declared.judging.Places.{Places}
 use Rattle.sheet.specs.declared.judging.Judged.{Judged}
 use Rattle.sheet.specs.declared.judging.Judged.the-variants.{Accepted, Refused}

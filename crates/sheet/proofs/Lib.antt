@@ -1,14 +1,6 @@
 pub mod Computing
-pub mod GuardLaws
-pub mod CheckLaws
-pub mod Bytes
-pub mod Bits
 pub mod Contents
 pub mod Rules
-pub mod Branches
-pub mod Parts
-pub mod PartLaws
-pub mod StatementLaws
 pub mod Reading
 pub mod Sound
 pub mod ReaderLaws

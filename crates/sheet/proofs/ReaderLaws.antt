@@ -7,7 +7,7 @@ use mathlib.Core.Bool.{true}
 use mathlib.Core.List.{List}
 use lib.ListN.{length, take, drop}
 use Rattle.sheet.specs.Contents.{start, size, body, contents-right, bodies}
-use Rattle.sheet.specs.Clauses.{in-fours}
+use Rattle.bodies.specs.Clauses.{in-fours}
 use Rattle.sheet.specs.Judgement.{places-of, Stands}
 use Rattle.sheet.specs.Runs.{place-at}
 use Rattle.sheet.specs.declared.judging.Places.{Places}

@@ -11,7 +11,7 @@ use Rattle.model.specs.Node.{own-states, state-of}
 use Rattle.model.specs.Crews.{child-classes}
 use Rattle.model.proofs.Words.{lt-or-le, length-listed, getD-listed, getD-past, mem-listed}
 use Rattle.sheet.specs.Contents.{Bodies}
-use Rattle.sheet.specs.Clauses.{in-fours, name-set, when-count, action-count, first-when, first-action}
+use Rattle.bodies.specs.Clauses.{in-fours, name-set, when-count, action-count, first-when, first-action}
 use Rattle.sheet.specs.Reading.{when-in, action-in, state-in, class-in}
 
 module _ (s : Bodies) where

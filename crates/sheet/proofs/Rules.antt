@@ -6,8 +6,9 @@ use mathlib.Core.Path.{_≡_, refl}
 use mathlib.Core.Bool.{Bool, true, false}
 use mathlib.Core.List.{List}
 use Rattle.sheet.specs.Contents.{bodies, Bodies, length-right, contents-right}
-use Rattle.sheet.specs.Clauses.{in-fours, in-eights}
-use Rattle.sheet.specs.Rules.{classes-right, counts-right, records-right, guards-right, targets-right, actions-right, statements-right, checked, refusal-in, refusal, Accepted}
+use Rattle.bodies.specs.Clauses.{in-fours, in-eights}
+use Rattle.sheet.specs.Rules.{checked, refusal-in, refusal, Accepted}
+use Rattle.bodies.specs.BodyRules.{classes-right, counts-right, records-right, guards-right, targets-right, actions-right, statements-right}
 
 -- a check that gives no refusal passed, and so did those behind it
 pub checked-zero : (ok : Bool) (n : ℕ) (rest : Unit {0} → ℕ) → checked ok (suc n) rest ≡ 0 → (ok ≡ true) × (rest tt ≡ 0)

@@ -15,17 +15,18 @@ use Rattle.model.specs.Node.{own-states, state-of}
 use Rattle.model.specs.Crews.{child-classes}
 use Rattle.model.specs.Sound.{Sound, ReferrerRight, part-within}
 use Rattle.model.proofs.Words.{each-elim}
-use Rattle.sheet.specs.Bytes.{Bytes}
+use Rattle.bodies.specs.Bytes.{Bytes}
 use Rattle.sheet.specs.Contents.{Bodies, bodies}
-use Rattle.sheet.specs.Clauses.{in-fours, name-set, when-count, action-count, first-when, first-action, referrer-number, target, body-of, statements-of}
-use Rattle.sheet.specs.Rules.{classes-right, target-right, state-targets-right, targets-right, Accepted}
-use Rattle.sheet.specs.Reading.{referrer-of, when-in, action-in, class-in, class-of}
-use Rattle.sheet.proofs.Bytes.{u32-below}
-use Rattle.sheet.proofs.Bits.{some-bit}
+use Rattle.bodies.specs.Clauses.{in-fours, name-set, when-count, action-count, first-when, first-action, referrer-number, target, body-of, statements-of, referrer-of}
+use Rattle.sheet.specs.Rules.{Accepted}
+use Rattle.bodies.specs.BodyRules.{classes-right, target-right, state-targets-right, targets-right}
+use Rattle.sheet.specs.Reading.{when-in, action-in, class-in, class-of}
+use Rattle.bodies.proofs.Bytes.{u32-below}
+use Rattle.bodies.proofs.Bits.{some-bit}
 use Rattle.sheet.proofs.Contents.{body-bytes, state-count-least}
 use Rattle.sheet.proofs.Rules.{BodiesRight, accepted-right}
 use Rattle.sheet.proofs.Reading.{child-classes-in, own-states-in, name-set-in, actions-in, mem-whens, mem-actions}
-use Rattle.sheet.proofs.Parts.{PartWithin, part-at-within}
+use Rattle.bodies.proofs.Parts.{PartWithin, part-at-within}
 
 -- the name sets of the class that is read are numbers of 32 bits
 pub sets-in : (s : Bodies) → Bytes (s .classes) → (i : ℕ) → i < child-classes (class-in s) → getD (class-in s .children) i 0 < 2 ^ 32

@@ -1,13 +1,6 @@
-pub mod Bytes
-pub mod Ends
 pub mod Contents
-pub mod GuardRecords
-pub mod StatementRecords
-pub mod PartChecks
-pub mod Clauses
 pub mod Rules
 pub mod Reading
-pub mod Referrers
 pub mod Judgement
 pub mod Runs
 pub mod ChildList

@@ -1,21 +1,16 @@
 -- The class that a sheet stands for: meant for accepted sheets, and total.
 -- Assumes nothing.
 use Prim.Native.Nat.{ℕ}
-use mathlib.Core.List.{List, [], _∷_}
-use lib.ListN.{getD}
+use mathlib.Core.List.{List}
 use Rattle.model.specs.Words.{maybe, listed}
-use Rattle.model.specs.Tree.{everyone, any-in, Guard, atom, Referrer, move-to, run, stay, When, end, Action, State, Class}
+use Rattle.model.specs.Tree.{everyone, any-in, Guard, atom, When, end, Action, State, Class}
 use Rattle.sheet.specs.Contents.{Bodies, bodies}
-use Rattle.sheet.specs.GuardRecords.{guard-from, by-read}
-use Rattle.sheet.specs.Clauses.{in-fours, name-set, when-count, action-count, first-when, first-action, guard-place, referrer-number, target, action-command, body-of}
+use Rattle.bodies.specs.GuardRecords.{guard-from, by-read}
+use Rattle.bodies.specs.Clauses.{in-fours, name-set, when-count, action-count, first-when, first-action, guard-place, referrer-number, target, referrer-of, action-command, body-of}
 
 -- the guard that begins at a place; where none does, one that no child makes true
 unfoldable pub guard-in : Bodies → ℕ → Guard
 guard-in s place = by-read (guard-from (s .guards) place) (λ _. atom any-in everyone 0) (λ g _. g)
-
--- 0 MOVE_TO, 1 DO, 2 STAY
-unfoldable pub referrer-of : ℕ → ℕ → Referrer
-referrer-of number t = getD (move-to t ∷ run t ∷ []) number stay
 
 unfoldable pub when-in : Bodies → ℕ → When
 when-in s w = record { guard = guard-in s (guard-place (s .whens) w); referrer = referrer-of (referrer-number (s .whens) w) (target (s .whens) w) }

@@ -4,7 +4,7 @@ use Prim.Native.Nat.{ℕ, _<_, _≤_}
 use mathlib.Core.Path.{_≡_}
 use mathlib.Core.List.{List, [], _∷_}
 use lib.ListN.{getD}
-use Rattle.sheet.specs.Clauses.{count-at, count-sum}
+use Rattle.bodies.specs.Clauses.{count-at, count-sum}
 use Rattle.sheet.specs.declared.judging.Places.{Places}
 use Rattle.sheet.specs.declared.readers.Run.{Run}
 

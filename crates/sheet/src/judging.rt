@@ -1,12 +1,12 @@
 // The judge: every byte string is accepted, with the places of its six bodies, or gets the number of the first rule that it breaks.
-use crate::checks::actions_ok;
-use crate::checks::classes_ok;
-use crate::checks::counts_ok;
-use crate::checks::guards_ok;
-use crate::checks::statements_ok;
-use crate::checks::targets_ok;
-use crate::guards::records_ok;
-use crate::words::u16_at;
+use bodies::checks::actions_ok;
+use bodies::checks::classes_ok;
+use bodies::checks::counts_ok;
+use bodies::checks::guards_ok;
+use bodies::checks::statements_ok;
+use bodies::checks::targets_ok;
+use bodies::guards::records_ok;
+use bodies::words::u16_at;
 use model::Refusal;
 ghost use mathlib.Core.Path.{_≡_};
 ghost use Prim.Native.Nat.{_+_, _*_, _<_, _≤_};

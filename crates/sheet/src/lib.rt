@@ -1,9 +1,4 @@
 // The class sheet: the judge, which answers every byte string with its refusal or the places of its bodies, and the readers of an
-// accepted sheet. Its rules and the class that it stands for are in specs/, what is shown of them in proofs/.
-pub mod checks;
-pub mod clauses;
-pub mod guards;
+// accepted sheet. Its nine refusals and the class that it stands for are in specs/, what is shown of them in proofs/.
 pub mod judging;
 pub mod readers;
-pub mod statements;
-pub mod words;

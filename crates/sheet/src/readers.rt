@@ -1,13 +1,13 @@
 // Readers of an accepted sheet over its places: the six bodies, how many own states and child classes there are, and where a state's
 // clauses stand. The floors above speak of these, never of byte offsets.
-use crate::clauses::count_at;
-use crate::clauses::count_sum;
 use crate::judging::Places;
+use bodies::clauses::count_at;
+use bodies::clauses::count_sum;
 use model::OwnState;
 ghost use mathlib.Core.Path.{_≡_};
 ghost use Prim.Native.Nat.{_<_, _≤_};
 ghost use Rattle.sheet.specs.Contents.{body};
-ghost use Rattle.sheet.specs.Clauses.{in-fours};
+ghost use Rattle.bodies.specs.Clauses.{in-fours};
 ghost use Rattle.sheet.specs.Judgement.{Stands};
 ghost use Rattle.sheet.specs.Runs.{place-at, RunIs};
 

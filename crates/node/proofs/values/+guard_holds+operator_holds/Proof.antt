@@ -7,8 +7,8 @@ use mathlib.Core.Path.{_≡_, sym, _∙_, ap}
 use mathlib.Core.List.{List}
 use borrow.Fn.Kinds.{In}
 use borrow.Fn.PlainCycle.{Measures, is, falls, and}
-use Rattle.sheet.specs.Bytes.{byte, record-at}
-use Rattle.sheet.specs.GuardRecords.{guard-at}
+use Rattle.bodies.specs.Bytes.{byte, record-at}
+use Rattle.bodies.specs.GuardRecords.{guard-at}
 use Rattle.node.specs.Values.{value-of}
 use Rattle.node.specs.declared.values.Value.the-variants.{Holds}
 use Rattle.node.proofs.ValueLaws.{value-past, value-atom, value-unknown, value-deep, value-first, value-one, value-second, value-both, value-either}
@@ -19,9 +19,9 @@ use Rattle.node.proofs.values.operator_holds.Reads as operator-holds
 use Rattle.node.proofs.values.operator_holds.Kinds as operator-holds-kinds
 use Rattle.node.proofs.values.+guard_holds+operator_holds.Lts-operator_holds as operator-holds-lts
 use Rattle.node.proofs.values.atom_holds.Reads as atom-holds-reads
-use Rattle.sheet.proofs.words.byte_at.Reads as byte-at-reads
-use Rattle.sheet.proofs.words.record_at.Reads as record-at-reads
-use Rattle.sheet.proofs.words.u32_at.Reads as u32-at-reads
+use Rattle.bodies.proofs.words.byte_at.Reads as byte-at-reads
+use Rattle.bodies.proofs.words.record_at.Reads as record-at-reads
+use Rattle.bodies.proofs.words.u32_at.Reads as u32-at-reads
 use Rattle.node.proofs.values.+guard_holds+operator_holds.{statement}
 use Rattle.node.proofs.values.+guard_holds+operator_holds.Tie.{close}
 

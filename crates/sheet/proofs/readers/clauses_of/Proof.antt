@@ -4,7 +4,7 @@ use native.Mathlib.Omega.{arith}
 use mathlib.Core.Path.{_∙_, ap}
 use mathlib.Core.List.{List}
 use Prim.Native.Nat.{ℕ}
-use Rattle.sheet.specs.Clauses.{count-at, count-sum}
+use Rattle.bodies.specs.Clauses.{count-at, count-sum}
 use borrow.Author.Needs.{needs}
 use Rattle.sheet.proofs.readers.clauses_of.Statement.{statement}
 use Rattle.sheet.proofs.readers.clauses_of.Tie as tie

@@ -1,0 +1,95 @@
+-- Laws about the numbers in a byte string, about parts of it, and about its records of 8 bytes.
+-- Assumes nothing.
+use Prim.Native.Nat.{ℕ, zero, suc, _+_, _*_, _<_, _≤_, _^_}
+use native.Mathlib.Omega.{arith}
+use native.Mathlib.Nat.{add-assoc}
+use mathlib.Core.Path.{_≡_, refl, ap, _∙_}
+use mathlib.Core.List.{List, _∷_}
+use mathlib.Core.Logic.{_⊎_, inl, inr}
+use lib.ListN.{length, getD, take, drop, length-take, List·getD-eq-default}
+use lib.Seq.{getD-take, getD-drop, drop-drop}
+use Rattle.model.proofs.Words.{lt-or-le}
+use Rattle.bodies.specs.Bytes.{Bytes, byte, u16, u32, records}
+
+-- a number of two bytes is below 65,536
+pub u16-below : (b : List ℕ) → Bytes b → (at : ℕ) → u16 b at < 65536
+u16-below b h at = omega (arith, h at, h (at + 1))
+
+-- a number of four bytes is below 2 to the 32
+pub u32-below : (b : List ℕ) → Bytes b → (at : ℕ) → u32 b at < 2 ^ 32
+u32-below b h at = omega (arith, h at, h (at + 1), h (at + 2), h (at + 3))
+
+-- the first n of a byte string are a byte string
+pub take-bytes : (n : ℕ) (b : List ℕ) → Bytes b → Bytes (take n b)
+take-bytes n b h i = go (lt-or-le i n)
+  where
+    go : (i < n) ⊎ (n ≤ i) → getD (take n b) i 0 < 256
+    go (inl l) = rw (getD-take n b i 0 l) (h i)
+    go (inr l) =
+        let s : length (take n b) ≤ i = omega (arith, length-take n b) in
+        rw (List·getD-eq-default (take n b) 0 s) (let z : 0 < 256 = omega arith in z)
+
+-- what is left of a byte string behind the first n is a byte string
+pub drop-bytes : (n : ℕ) (b : List ℕ) → Bytes b → Bytes (drop n b)
+drop-bytes n b h i = rw (getD-drop n b i 0) (h (n + i))
+
+-- the numbers of a part that begins at n, read in the whole
+pub u16-drop : (n : ℕ) (b : List ℕ) (at : ℕ) → u16 (drop n b) at ≡ u16 b (n + at)
+u16-drop n b at = rw (getD-drop n b at 0, getD-drop n b (at + 1) 0, ← add-assoc n at 1)
+
+-- the same of four bytes
+pub u32-drop : (n : ℕ) (b : List ℕ) (at : ℕ) → u32 (drop n b) at ≡ u32 b (n + at)
+u32-drop n b at =
+    rw (getD-drop n b at 0, getD-drop n b (at + 1) 0, getD-drop n b (at + 2) 0, getD-drop n b (at + 3) 0)
+    (rw (← add-assoc n at 1, ← add-assoc n at 2, ← add-assoc n at 3))
+
+-- a number that lies inside the first n bytes is that of the whole
+pub u16-take : (n : ℕ) (b : List ℕ) (at : ℕ) → at + 2 ≤ n → u16 (take n b) at ≡ u16 b at
+u16-take n b at l = rw (getD-take n b at 0 (omega arith), getD-take n b (at + 1) 0 (omega arith))
+
+-- the same of four bytes
+pub u32-take : (n : ℕ) (b : List ℕ) (at : ℕ) → at + 4 ≤ n → u32 (take n b) at ≡ u32 b at
+u32-take n b at l =
+    rw (getD-take n b at 0 (omega arith), getD-take n b (at + 1) 0 (omega arith))
+    (rw (getD-take n b (at + 2) 0 (omega arith), getD-take n b (at + 3) 0 (omega arith)))
+
+-- n records are n entries
+pub length-records : (n : ℕ) (b : List ℕ) → length (records n b) ≡ n
+unfolding records
+length-records zero b = refl
+length-records (suc n) b = ap suc (length-records n (drop 8 b))
+
+-- record i is the 8 bytes from i * 8 on
+pub getD-records : (n : ℕ) (b : List ℕ) (i : ℕ) (d : List ℕ) → i < n → getD (records n b) i d ≡ take 8 (drop (i * 8) b)
+unfolding records
+getD-records zero b i d l = absurd (omega arith)
+getD-records (suc n) b zero d l = refl
+getD-records (suc n) b (suc i) d l =
+    let e : 8 + i * 8 ≡ suc i * 8 = omega arith in
+    getD-records n (drop 8 b) i d (omega arith) ∙ ap (λ (x : List ℕ). take 8 x) (drop-drop (i * 8) 8 b ∙ ap (λ (k : ℕ). drop k b) e)
+
+-- byte j of record i, and the numbers in it, read in the whole
+pub byte-record : (b : List ℕ) (i j : ℕ) → j < 8 → byte (take 8 (drop (i * 8) b)) j ≡ byte b (i * 8 + j)
+byte-record b i j l = getD-take 8 (drop (i * 8) b) j 0 l ∙ getD-drop (i * 8) b j 0
+
+pub u16-record : (b : List ℕ) (i j : ℕ) → j + 2 ≤ 8 → u16 (take 8 (drop (i * 8) b)) j ≡ u16 b (i * 8 + j)
+u16-record b i j l = u16-take 8 (drop (i * 8) b) j l ∙ u16-drop (i * 8) b j
+
+pub u32-record : (b : List ℕ) (i j : ℕ) → j + 4 ≤ 8 → u32 (take 8 (drop (i * 8) b)) j ≡ u32 b (i * 8 + j)
+u32-record b i j l = u32-take 8 (drop (i * 8) b) j l ∙ u32-drop (i * 8) b j
+
+-- the first k of n records
+pub take-records : (k n : ℕ) (b : List ℕ) → k ≤ n → take k (records n b) ≡ records k b
+unfolding records
+take-records zero n b l = refl
+take-records (suc k) zero b l = absurd (omega arith)
+take-records (suc k) (suc n) b l = ap (λ (x : List (List ℕ)). take 8 b ∷ x) (take-records k n (drop 8 b) (omega arith))
+
+-- the records behind the first k of n
+pub drop-records : (k m n : ℕ) (b : List ℕ) → n ≡ k + m → drop k (records n b) ≡ records m (drop (k * 8) b)
+unfolding records
+drop-records zero m n b e = ap (λ (x : ℕ). records x b) (let f : n ≡ m = omega arith in f)
+drop-records (suc k) m zero b e = absurd (omega arith)
+drop-records (suc k) m (suc n) b e =
+    let f : 8 + k * 8 ≡ suc k * 8 = omega arith in
+    drop-records k m n (drop 8 b) (omega arith) ∙ ap (records m) (drop-drop (k * 8) 8 b ∙ ap (λ (x : ℕ). drop x b) f)

@@ -1,0 +1,68 @@
+-- Rules 3 to 9, each over the bodies that it speaks of. A rule is true where its refusal is not given.
+-- Assumes nothing.
+use Prim.Native.Nat.{ℕ, _+_}
+use mathlib.Core.Bool.{Bool, _&&_, not}
+use mathlib.Core.List.{List}
+use lib.Dec.{eqb, leb, ltb}
+use Rattle.model.specs.Words.{choose, is-some, each}
+use Rattle.bodies.specs.Bytes.{record-at}
+use Rattle.bodies.specs.GuardRecords.{record-right, guard-from, is-read}
+use Rattle.bodies.specs.Clauses.{in-fours, in-eights, count-sum, name-set, when-count, action-count, first-when, first-action, guard-place, referrer-number, target, action-command, action-zero, body-of}
+
+-- 3: a child class with an empty set
+unfoldable pub classes-right : List ℕ → Bool
+classes-right classes = each (in-fours classes) (λ i. not (eqb (name-set classes i) 0))
+
+-- 4: when or action counts of the states do not sum to W or A
+unfoldable pub counts-right : List ℕ → ℕ → ℕ → Bool
+counts-right states W A = eqb (count-sum states 0 (in-fours states)) W && eqb (count-sum states 2 (in-fours states)) A
+
+-- 5: a guard record breaks its layout
+unfoldable pub records-right : ℕ → List ℕ → Bool
+records-right K guards = each (in-eights guards) (λ i. record-right K (record-at guards i))
+
+-- 6: a when clause's guard begins past the end, runs past it, or is too deep
+unfoldable pub guards-right : List ℕ → List ℕ → Bool
+guards-right guards whens = each (in-fours whens) (λ w. is-read (guard-from guards (guard-place whens w)))
+
+-- MOVE_TO an own state, DO one of this state's action clauses, STAY with 0
+abbrev pub target-right : ℕ → ℕ → List ℕ → ℕ → Bool
+target-right S own-actions whens w =
+    choose (eqb (referrer-number whens w) 0) (λ _. ltb (target whens w) S)
+    (λ _. choose (eqb (referrer-number whens w) 1) (λ _. ltb (target whens w) own-actions)
+    (λ _. eqb (referrer-number whens w) 2 && eqb (target whens w) 0))
+
+-- the clauses of state q
+unfoldable pub state-targets-right : List ℕ → List ℕ → ℕ → Bool
+state-targets-right states whens q =
+    each (when-count states q) (λ i. target-right (in-fours states) (action-count states q) whens (first-when states q + i))
+
+-- 7: referrer over 2 or a wrong target
+unfoldable pub targets-right : List ℕ → List ℕ → Bool
+targets-right states whens = each (in-fours states) (state-targets-right states whens)
+
+-- 8: action clause: command, zero byte
+abbrev pub action-right : List ℕ → ℕ → Bool
+action-right actions a = leb (action-command actions a) 63 && eqb (action-zero actions a) 0
+
+unfoldable pub actions-plain : List ℕ → Bool
+actions-plain actions = each (in-fours actions) (action-right actions)
+
+-- the command of action clause a is that of none from the first on
+unfoldable pub new-command : List ℕ → ℕ → ℕ → Bool
+new-command actions first i = each i (λ j. not (eqb (action-command actions (first + j)) (action-command actions (first + i))))
+
+-- repeat in a state
+unfoldable pub none-twice : List ℕ → List ℕ → ℕ → Bool
+none-twice states actions q = each (action-count states q) (new-command actions (first-action states q))
+
+unfoldable pub commands-apart : List ℕ → List ℕ → Bool
+commands-apart states actions = each (in-fours states) (none-twice states actions)
+
+-- statement counts not summing to T
+unfoldable pub actions-right : List ℕ → List ℕ → ℕ → Bool
+actions-right states actions T = actions-plain actions && (commands-apart states actions && eqb (count-sum actions 2 (in-fours actions)) T)
+
+-- 9: a statement breaks its layout, its part or depth, or an if's guard breaks rule 6
+unfoldable pub statements-right : ℕ → ℕ → List ℕ → List ℕ → List ℕ → Bool
+statements-right K S guards actions statements = each (in-fours actions) (λ a. is-some (body-of K S guards actions statements a))

@@ -1,0 +1,8 @@
+pub mod Bytes
+pub mod GuardRecords
+pub mod Ends
+pub mod StatementRecords
+pub mod PartChecks
+pub mod Clauses
+pub mod Referrers
+pub mod BodyRules

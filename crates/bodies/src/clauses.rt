@@ -1,0 +1,76 @@
+// The records of 4 bytes: child classes, states, when clauses, action clauses.
+use crate::words::byte_at;
+use crate::words::u16_at;
+use crate::words::u32_at;
+use model::OwnState;
+ghost use mathlib.Core.Path.{_≡_};
+ghost use Prim.Native.Nat.{_<_, _≤_, _*_};
+ghost use Rattle.bodies.specs.Clauses.{name-set, count-at, count-sum, guard-place, referrer-number, target, action-command, referrer-of};
+ghost use Rattle.bodies.specs.Referrers.{reads-as};
+
+// A when clause's referrer with its target.
+pub enum Referrer {
+    MoveTo(OwnState),
+    Do(u8),
+    Stay,
+}
+
+// The name set of child class i.
+pub fn name_set(classes: &[u8], i: usize) -> u32
+    requires { ⌜ i < 1024 ⌝ }
+    ensures { λ r. ⌜ r ≡ name-set (now (classes .entry)) i ⌝ }
+{
+    u32_at(classes, i * 4)
+}
+
+// The count that record i holds at an offset.
+pub fn count_at(b: &[u8], offset: usize, i: usize) -> usize
+    requires { ⌜ (i < 1024) × (offset < 4) ⌝ }
+    ensures { λ r. ⌜ (r ≡ count-at (now (b .entry)) offset i) × (r < 65536) ⌝ }
+{
+    u16_at(b, i * 4 + offset)
+}
+
+// The sum of the counts of the first n records: the first clause of state n, or the first statement of action clause n.
+pub fn count_sum(b: &[u8], offset: usize, n: usize) -> usize
+    requires { ⌜ (n ≤ 1024) × (offset < 4) ⌝ }
+    ensures { λ r. ⌜ (r ≡ count-sum (now (b .entry)) offset n) × (r ≤ n * 65536) ⌝ }
+{
+    let mut sum = 0;
+    let mut i = 0;
+    while i < n {
+        sum = sum + count_at(b, offset, i);
+        i = i + 1;
+    }
+    sum
+}
+
+// The place of when clause w's guard.
+pub fn guard_place(whens: &[u8], w: usize) -> usize
+    requires { ⌜ w < 4294967296 ⌝ }
+    ensures { λ r. ⌜ r ≡ guard-place (now (whens .entry)) w ⌝ }
+{
+    u16_at(whens, w * 4)
+}
+
+// When clause w's referrer with its target, in the kind of number that it is.
+pub fn referrer_at(whens: &[u8], w: usize) -> Referrer
+    requires { ⌜ w < 4294967296 ⌝ }
+    ensures { λ r. ⌜ reads-as r ≡ referrer-of (referrer-number (now (whens .entry)) w) (target (now (whens .entry)) w) ⌝ }
+{
+    let number = byte_at(whens, w * 4 + 2);
+    let target = byte_at(whens, w * 4 + 3);
+    match number {
+        0 => Referrer::MoveTo(OwnState((target % 256) as u8)),
+        1 => Referrer::Do((target % 256) as u8),
+        _ => Referrer::Stay,
+    }
+}
+
+// Action clause a's command.
+pub fn action_command(actions: &[u8], a: usize) -> usize
+    requires { ⌜ a < 4294967296 ⌝ }
+    ensures { λ r. ⌜ (r ≡ action-command (now (actions .entry)) a) × (r < 256) ⌝ }
+{
+    byte_at(actions, a * 4)
+}

@@ -1,0 +1,5 @@
+pub mod SendLaws
+pub mod ReadLaws
+pub mod RunLaws
+pub mod ClauseLaws
+pub mod HandleLaws

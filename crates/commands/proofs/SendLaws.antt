@@ -1,0 +1,117 @@
+-- Laws about sending: runs of stores, and the commands for the children of a list that are left at a turn.
+-- Assumes nothing.
+use Prim.Native.Nat.{ℕ, suc, _+_, _*_, _/_, _%_, _<_, _≤_}
+use native.Mathlib.Omega.{arith}
+use mathlib.Core.Path.{_≡_, refl, _∙_, ap}
+use mathlib.Core.Bool.{Bool, true, false, _||_}
+use mathlib.Core.List.{List, [], _∷_, _++_}
+use lib.Dec.{eqb}
+use lib.ListN.{length, getD, drop, set, length-drop}
+use lib.Seq.{sets, length-sets, drop-cons}
+use Rattle.model.specs.Words.{kept}
+use Rattle.model.specs.Tree.{Child}
+use Rattle.model.specs.Guards.{concerns}
+use Rattle.model.specs.Commands.{Sent, sent-to}
+use Rattle.bodies.specs.GuardRecords.{pattern-of}
+use Rattle.sheet.specs.ChildList.{children-of, sent-bytes}
+use Rattle.commands.specs.Commands.{SendsAll}
+use Rattle.node.proofs.CrewLaws.{no-pair}
+
+-- a run of stores in two parts
+pub sets-append : (l : List ℕ) (i : ℕ) (xs ys : List ℕ) → sets l i (xs ++ ys) ≡ sets (sets l i xs) (i + length xs) ys
+sets-append l i [] ys = let e : i ≡ i + 0 = omega arith in ap (λ (j : ℕ). sets l j ys) e
+sets-append l i (x ∷ xs) ys =
+    let e : suc i + length xs ≡ i + suc (length xs) = omega arith in
+    sets-append (set l i x) (suc i) xs ys ∙ ap (λ (j : ℕ). sets (sets (set l i x) (suc i) xs) j ys) e
+
+-- the bytes of commands in two parts
+pub bytes-append : (xs ys : List Sent) → sent-bytes (xs ++ ys) ≡ sent-bytes xs ++ sent-bytes ys
+unfolding sent-bytes
+bytes-append [] ys = refl
+bytes-append (x ∷ xs) ys = ap (λ (l : List ℕ). x .place % 256 ∷ x .place / 256 ∷ x .command ∷ l) (bytes-append xs ys)
+
+-- three stores, one place apart
+pub stored : (l k m n : List ℕ) (at x y z : ℕ) → k ≡ set l at x → m ≡ set k (at + 1) y → n ≡ set m (at + 2) z → n ≡ sets l at (x ∷ y ∷ z ∷ [])
+stored l k m n at x y z e f g =
+    let p : at + 1 ≡ suc at = omega arith in
+    let q : at + 2 ≡ suc (suc at) = omega arith in
+    rw (g, f, e, p, q)
+
+-- the children from pair i on
+pub pair-at : (l : List ℕ) (i : ℕ) → i < length l / 2
+    → children-of (drop (2 * i) l) ≡ record { class = getD l (2 * i) 0; name = getD l (suc (2 * i)) 0 } ∷ children-of (drop (2 * (i + 1)) l)
+unfolding children-of
+pair-at l i p =
+    let e : 2 * (i + 1) ≡ suc (suc (2 * i)) = omega arith in
+    rw (e, drop-cons l (2 * i) 0 (omega arith), drop-cons l (suc (2 * i)) 0 (omega arith))
+
+-- a child is of the pattern
+pub concerns-told : (p : ℕ) (k : Child) → concerns (pattern-of p) k ≡ (eqb p 255 || eqb (k .class) p)
+unfolding concerns
+concerns-told p k = go (eqb p 255) refl
+  where
+    go : (b : Bool) → eqb p 255 ≡ b → concerns (pattern-of p) k ≡ (b || eqb (k .class) p)
+    go true e = rw e
+    go false e = rw e
+
+module _ (l : List ℕ) (p m : ℕ) where
+  -- what is sent to the children from pair i on
+  abbrev pub left : ℕ → List Sent
+  left i = sent-to m (pattern-of p) i (children-of (drop (2 * i) l))
+
+  -- that pair is of the pattern
+  abbrev pub meant : ℕ → Bool
+  meant i = eqb p 255 || eqb (getD l (2 * i) 0) p
+
+  left-kept : (i : ℕ) → i < length l / 2 → left i ≡ kept (meant i) (record { place = i; command = m }) (left (i + 1))
+  unfolding sent-to
+  left-kept i h = rw (pair-at l i h, concerns-told p (record { class = getD l (2 * i) 0; name = getD l (suc (2 * i)) 0 }))
+
+  left-one : (i : ℕ) → i < length l / 2 → meant i ≡ true → sent-bytes (left i) ≡ i % 256 ∷ i / 256 ∷ m ∷ sent-bytes (left (i + 1))
+  unfolding sent-bytes
+  left-one i h t = rw (left-kept i h, t)
+
+  left-past : (i : ℕ) → i < length l / 2 → meant i ≡ false → left i ≡ left (i + 1)
+  left-past i h t = left-kept i h ∙ rw t
+
+  left-none : (i : ℕ) → length l / 2 ≤ i → sent-bytes (left i) ≡ []
+  unfolding sent-to sent-bytes
+  left-none i h = rw (no-pair (drop (2 * i) l) (simp length-drop (omega arith)))
+
+  -- a turn from the first pair on: with what is left to be sent the buffer is as it is to be
+  pub record Sending (before : List ℕ) (at : ℕ) (out : List ℕ) (end i : ℕ) : Type 0 where
+    pub inside : i ≤ length l / 2
+    pub buffer : sets out end (sent-bytes (left i)) ≡ sets before at (sent-bytes (left 0))
+    pub place : end + length (sent-bytes (left i)) ≡ at + length (sent-bytes (left 0))
+    pub most : end ≤ at + 3 * i
+    pub same : length out ≡ length before
+
+  module _ {before : List ℕ} {at : ℕ} {out : List ℕ} {end i : ℕ} (s : Sending before at out end i) where
+    pub send-more : {next : List ℕ} → i < length l / 2 → meant i ≡ true → next ≡ sets out end (i % 256 ∷ i / 256 ∷ m ∷ []) → Sending before at next (end + 3) (i + 1)
+    send-more {next} h t e =
+        let f : end + 3 ≡ suc (suc (suc end)) = omega arith in
+        record {
+          inside = omega arith;
+          buffer = rw (e, f) (rw (left-one i h t) at (s .buffer));
+          place = omega (arith, s .place, ap length (left-one i h t));
+          most = omega arith;
+          same = ap length e ∙ length-sets out end (i % 256 ∷ i / 256 ∷ m ∷ []) ∙ s .same;
+        }
+
+    pub send-past : i < length l / 2 → meant i ≡ false → Sending before at out end (i + 1)
+    send-past h t =
+        record {
+          inside = omega arith;
+          buffer = rw (left-past i h t) at (s .buffer);
+          place = rw (left-past i h t) at (s .place);
+          most = omega arith;
+          same = s .same;
+        }
+
+    pub send-end : length l / 2 ≤ i → length l ≤ 8192 → SendsAll l p m before out at end
+    send-end h k =
+        record {
+          buffer = rw (left-none i h) at (s .buffer);
+          place = omega (arith, s .place, ap length (left-none i h));
+          most = omega arith;
+        }

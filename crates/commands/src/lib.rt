@@ -1,0 +1,208 @@
+// The handling of a command: the statements of its action clause are run, once to count the bytes and once to write them.
+use bodies::clauses::action_command;
+use bodies::statements::part_length;
+use bodies::statements::statements_of;
+use bodies::words::byte_at;
+use bodies::words::u16_at;
+use model::OwnState;
+use node::values::guard_true;
+use sheet::judging::Places;
+use sheet::readers::ACTION_CLAUSES;
+use sheet::readers::ACTIONS;
+use sheet::readers::GUARDS;
+use sheet::readers::STATEMENTS;
+use sheet::readers::body_of;
+use sheet::readers::clauses_of;
+ghost use mathlib.Core.Path.{_≡_};
+ghost use mathlib.Core.List.{[], _∷_};
+ghost use Prim.Native.Nat.{_+_, _*_, _/_, _%_, _<_, _≤_};
+ghost use lib.ListN.{length, set};
+ghost use lib.Seq.{sets};
+ghost use Rattle.bodies.specs.Bytes.{u16};
+ghost use Rattle.sheet.specs.Judgement.{Stands};
+ghost use Rattle.sheet.specs.ChildList.{children-of};
+ghost use Rattle.node.specs.Probing.{Crewed};
+ghost use Rattle.commands.specs.Commands.{SendsAll, Room, RunsPart, RunsIf, first-action-for, Handles};
+
+// Whether a move_to ended the clause, and where it leads.
+pub enum Moved {
+    Not,
+    To(OwnState),
+}
+
+// What running statements did: the place in the buffer behind the bytes sent, and the move.
+pub struct Ran {
+    pub at: usize,
+    pub moved: Moved,
+}
+
+// What handling a command comes to; Short: the buffer has no room for what is sent, and nothing is written.
+pub enum Handling {
+    Ignored,
+    Handled(OwnState, usize),
+    Short,
+}
+
+// A byte at a place of the buffer; past its end nothing is stored.
+fn store(out: &mut [u8], at: usize, byte: u8)
+    ensures { λ _. ⌜ now (out .exit) ≡ set (now (out .entry)) at byte ⌝ }
+{
+    if at < out.len() {
+        out[at] = byte;
+    }
+}
+
+// One command sent: its child's place in the list, low byte first, and the command.
+fn put(out: &mut [u8], at: usize, place: usize, command: u8)
+    requires { ⌜ (at < 1099511627776) × (place < 65536) ⌝ }
+    ensures { λ _. ⌜ now (out .exit) ≡ sets (now (out .entry)) at (place % 256 ∷ place / 256 ∷ command ∷ []) ⌝ }
+{
+    store(out, at, (place % 256) as u8);
+    store(out, at + 1, (place / 256) as u8);
+    store(out, at + 2, command);
+}
+
+// The command for each child of the pattern, in list order; the place behind the last byte.
+fn send(list: &[u8], pattern: usize, command: u8, out: &mut [u8], at: usize) -> usize
+    requires { ⌜ (length (now list) ≤ 8192) × (at < 1000000000000) ⌝ }
+    ensures { λ r. ⌜ SendsAll (now (list .entry)) pattern command (now (out .entry)) (now (out .exit)) at r ⌝ }
+{
+    let mut end = at;
+    let mut i = 0;
+    while i < list.len() / 2 {
+        let place = i;
+        let class = list[2 * place] as usize;
+        i = i + 1;
+        if (pattern == 255) | (class == pattern) {
+            put(out, end, place, command);
+            end = end + 3;
+        }
+    }
+    end
+}
+
+// Runs a list of statements on the children that the sets show: calls `run_if` on an if, which calls the list on its part.
+fn run_list(g: &[u8], sets: [u32; 8], list: &[u8], part: &[u8], out: &mut [u8], at: usize) -> Ran
+    requires { ⌜ Room sets (now list) (now part) at ⌝ }
+    ensures { λ r. ⌜ RunsPart (now (g .entry)) (now (list .entry)) (now (part .entry)) (now (out .entry)) (now (out .exit)) at r ⌝ }
+{
+    if part.len() < 8 {
+        return Ran {
+            at,
+            moved: Moved::Not,
+        };
+    }
+    let kind = byte_at(part, 0);
+    match kind {
+        0 => {
+            let next = send(
+                list,
+                byte_at(part, 2),
+                (byte_at(part, 1) % 256) as u8,
+                out,
+                at,
+            );
+            run_list(g, sets, list, &part[8..], out, next)
+        }
+        1 => Ran {
+            at,
+            moved: Moved::To(OwnState((byte_at(part, 1) % 256) as u8)),
+        },
+        2 => {
+            let n = part_length(part) * 8 + 8;
+            if part.len() < n {
+                return Ran {
+                    at,
+                    moved: Moved::Not,
+                };
+            }
+            let ran = run_if(g, sets, list, &part[0..n], out, at);
+            let moved = ran.moved;
+            let next = ran.at;
+            match moved {
+                Moved::To(t) => Ran {
+                    at: next,
+                    moved: Moved::To(t),
+                },
+                Moved::Not => run_list(g, sets, list, &part[n..], out, next),
+            }
+        }
+        _ => Ran {
+            at,
+            moved: Moved::Not,
+        },
+    }
+}
+
+// Runs one if, whose record and parts are `s`: its then-part where the guard is true, else its else-part.
+fn run_if(g: &[u8], sets: [u32; 8], list: &[u8], s: &[u8], out: &mut [u8], at: usize) -> Ran
+    requires { ⌜ Room sets (now list) (now s) at × (length (now s) ≡ (u16 (now s) 4 + u16 (now s) 6) * 8 + 8) ⌝ }
+    ensures { λ r. ⌜ RunsIf (now (g .entry)) (now (list .entry)) (now (s .entry)) (now (out .entry)) (now (out .exit)) at r ⌝ }
+{
+    let middle = u16_at(s, 4) * 8 + 8;
+    if guard_true(g, u16_at(s, 2), sets) {
+        return run_list(g, sets, list, &s[8..middle], out, at);
+    }
+    run_list(g, sets, list, &s[middle..], out, at)
+}
+
+// The number within state q of its action clause for a command; the number of its clauses where there is none.
+fn clause_for(sheet: &[u8], p: Places, q: OwnState, command: u8) -> usize
+    requires { ⌜ Stands (now sheet) p ⌝ }
+    ensures { λ r. ⌜ r ≡ first-action-for (now (sheet .entry)) (q .0) command ⌝ }
+{
+    let clauses = clauses_of(sheet, p, q, ACTION_CLAUSES);
+    let first = clauses.first;
+    let n = clauses.count;
+    let actions = body_of(sheet, p, ACTIONS);
+    let mut i = 0;
+    loop {
+        if i == n {
+            break n;
+        }
+        if action_command(actions, first + i) == (command as usize) {
+            break i;
+        }
+        i = i + 1;
+    }
+}
+
+// Handles a command in state q: where its statements send more than the buffer holds, nothing is written.
+pub fn handle(
+    sheet: &[u8],
+    p: Places,
+    list: &[u8],
+    sets: [u32; 8],
+    q: OwnState,
+    command: u8,
+    out: &mut [u8],
+) -> Handling
+    requires { ⌜ Stands (now sheet) p × (Crewed sets (children-of (now list)) × (length (now list) ≤ 8192)) ⌝ }
+    ensures { λ r. ⌜ Handles (now (sheet .entry)) (now (list .entry)) (q .0) command (now (out .entry)) (now (out .exit)) r ⌝ }
+{
+    let clauses = clauses_of(sheet, p, q, ACTION_CLAUSES);
+    let first = clauses.first;
+    let n = clauses.count;
+    let hit = clause_for(sheet, p, q, command);
+    if hit == n {
+        return Handling::Ignored;
+    }
+    let guards = body_of(sheet, p, GUARDS);
+    let part = statements_of(
+        body_of(sheet, p, ACTIONS),
+        body_of(sheet, p, STATEMENTS),
+        first + hit,
+    );
+    let counted = run_list(guards, sets, list, part, &mut out[0..0], 0);
+    let needed = counted.at;
+    if out.len() < needed {
+        return Handling::Short;
+    }
+    let ran = run_list(guards, sets, list, part, out, 0);
+    let written = ran.at;
+    let moved = ran.moved;
+    match moved {
+        Moved::To(t) => Handling::Handled(t, written),
+        Moved::Not => Handling::Handled(q, written),
+    }
+}
