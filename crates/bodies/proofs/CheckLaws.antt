@@ -10,7 +10,8 @@ use mathlib.Core.List.{List}
 use lib.Dec.{eqb, ltb}
 use borrow.Author.Tests.{eq-eqb, ne-eqb}
 use Rattle.model.specs.Words.{total}
-use Rattle.model.specs.Tree.{move-to, run, stay}
+use Rattle.model.specs.Tree.{move-to, run, stay, everyone, of-class}
+use Rattle.bodies.specs.GuardRecords.{pattern-of}
 use Rattle.bodies.specs.Clauses.{count-at, count-sum, referrer-number, target, referrer-of}
 use Rattle.bodies.specs.BodyRules.{target-right}
 
@@ -31,13 +32,13 @@ pub differ : (x y : ℕ) → (x ≡ y → ⊥) → not (eqb x y) ≡ true
 differ x y h = rw (ne-eqb x y h)
 
 -- a referrer goes by its number
-pub referrer-move : (number t x y : ℕ) → x ≡ number → y ≡ t → x ≡ 0 → y < 256 → move-to (y % 256) ≡ referrer-of number t
+pub referrer-move : (number t x y : ℕ) → x ≡ number → y ≡ t → x ≡ 0 → move-to y ≡ referrer-of number t
 unfolding referrer-of
-referrer-move number t x y e f h l = let z : number ≡ 0 = omega arith in rw (z, mod-eq-of-lt l, f)
+referrer-move number t x y e f h = let z : number ≡ 0 = omega arith in rw (z, f)
 
-pub referrer-run : (number t x y : ℕ) → x ≡ number → y ≡ t → x ≡ 1 → y < 256 → run (y % 256) ≡ referrer-of number t
+pub referrer-run : (number t x y : ℕ) → x ≡ number → y ≡ t → x ≡ 1 → run y ≡ referrer-of number t
 unfolding referrer-of
-referrer-run number t x y e f h l = let z : number ≡ 1 = omega arith in rw (z, mod-eq-of-lt l, f)
+referrer-run number t x y e f h = let z : number ≡ 1 = omega arith in rw (z, f)
 
 pub referrer-stay : (number t x : ℕ) → x ≡ number → (x ≡ 0 → ⊥) → (x ≡ 1 → ⊥) → stay ≡ referrer-of number t
 unfolding referrer-of
@@ -57,6 +58,13 @@ module _ (S a : ℕ) (whens : List ℕ) (w x y : ℕ) (e : x ≡ referrer-number
 
   pub target-stay : (x ≡ 0 → ⊥) → (x ≡ 1 → ⊥) → (eqb x 2 && eqb y 0) ≡ target-right S a whens w
   target-stay z o = rw (e, f, ne-eqb (referrer-number whens w) 0 (λ q. z (e ∙ q)), ne-eqb (referrer-number whens w) 1 (λ q. o (e ∙ q)))
+
+-- a pattern's byte is 255 for all children, else a child class
+pub pattern-all : (p x : ℕ) → x ≡ p → x ≡ 255 → everyone ≡ pattern-of p
+pattern-all p x e h = rw (eq-eqb p 255 (sym e ∙ h))
+
+pub pattern-one : (p x y : ℕ) → x ≡ p → (x ≡ 255 → ⊥) → y ≡ p → of-class y ≡ pattern-of p
+pattern-one p x y e h f = rw (ne-eqb p 255 (λ q. h (e ∙ q)), f)
 
 -- a target is judged in its state, whose numbers were read before
 pub target-in : (S : ℕ) (whens : List ℕ) (i : ℕ) {a a′ f f′ : ℕ} → a ≡ a′ → f ≡ f′ → target-right S a whens (f + i) ≡ target-right S a′ whens (f′ + i)

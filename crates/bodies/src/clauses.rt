@@ -1,5 +1,7 @@
 // The records of 4 bytes: child classes, states, when clauses, action clauses.
+use crate::kinds::own_state_at;
 use crate::words::byte_at;
+use crate::words::narrow_at;
 use crate::words::u16_at;
 use crate::words::u32_at;
 use model::OwnState;
@@ -59,10 +61,10 @@ pub fn referrer_at(whens: &[u8], w: usize) -> Referrer
     ensures { λ r. ⌜ reads-as r ≡ referrer-of (referrer-number (now (whens .entry)) w) (target (now (whens .entry)) w) ⌝ }
 {
     let number = byte_at(whens, w * 4 + 2);
-    let target = byte_at(whens, w * 4 + 3);
+    let target = w * 4 + 3;
     match number {
-        0 => Referrer::MoveTo(OwnState((target % 256) as u8)),
-        1 => Referrer::Do((target % 256) as u8),
+        0 => Referrer::MoveTo(own_state_at(whens, target)),
+        1 => Referrer::Do(narrow_at(whens, target)),
         _ => Referrer::Stay,
     }
 }

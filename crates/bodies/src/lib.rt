@@ -3,5 +3,6 @@
 pub mod checks;
 pub mod clauses;
 pub mod guards;
+pub mod kinds;
 pub mod statements;
 pub mod words;

@@ -11,14 +11,21 @@ fn wide(x: u8) -> usize
     x as usize
 }
 
-// The byte at a place.
+// The byte at a place, in its own width.
+pub fn narrow_at(b: &[u8], at: usize) -> u8
+    ensures { λ r. ⌜ r ≡ byte (now (b .entry)) at ⌝ }
+{
+    if at < b.len() {
+        return b[at];
+    }
+    0
+}
+
+// The byte at a place, as a number to count with.
 pub fn byte_at(b: &[u8], at: usize) -> usize
     ensures { λ r. ⌜ (r ≡ byte (now (b .entry)) at) × (r < 256) ⌝ }
 {
-    if at < b.len() {
-        return wide(b[at]);
-    }
-    0
+    wide(narrow_at(b, at))
 }
 
 // The two bytes at a place.

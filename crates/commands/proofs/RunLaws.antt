@@ -9,7 +9,7 @@ use mathlib.Core.Option.{Option, none, some}
 use lib.ListN.{length, take, drop, length-take, length-drop, length-append}
 use lib.Seq.{sets, length-sets, getD-take}
 use Rattle.model.specs.Words.{maybe}
-use Rattle.model.specs.Tree.{Child, Guard, Statement, send, branch, Part, end}
+use Rattle.model.specs.Tree.{Child, Pattern, Guard, Statement, send, branch, Part, end}
 use Rattle.model.specs.Guards.{holds}
 use Rattle.model.specs.Commands as Tree
 use Rattle.bodies.specs.Bytes.{byte, u16, records}
@@ -92,7 +92,7 @@ module _ (g list part before : List ℕ) (at : ℕ) where
           kept = refl;
         }
 
-    pub run-sent : (mid after : List ℕ) (c m next : ℕ) (r : Ran) → byte part 0 ≡ 0 → m ≡ byte part 1 → c ≡ byte part 2
+    pub run-sent : (mid after : List ℕ) (c : Pattern) (m next : ℕ) (r : Ran) → byte part 0 ≡ 0 → m ≡ byte part 1 → c ≡ pattern-of (byte part 2)
         → SendsAll list c m before mid at next → RunsPart g list (take (length part - 8) (drop 8 part)) mid after next r → RunsPart g list part before after at r
     unfolding Tree.run-part
     run-sent mid after c m next r k em ec done rest =
@@ -101,9 +101,9 @@ module _ (g list part before : List ℕ) (at : ℕ) where
           runs = λ d K S p h.
               let (s, q, x, y, w) = reads-first d K S g part p l h in
               let z = reads-send K S g (parts-of d K S g) (take 8 part) (behind d K S g part) s x (front part 0 (omega arith) ∙ k) in
-              let v : s ≡ send m (pattern-of c) = z ∙ rw (em, ec, front part 1 (omega arith), front part 2 (omega arith)) in
+              let v : s ≡ send m c = z ∙ rw (em, ec, front part 1 (omega arith), front part 2 (omega arith)) in
               rw (w, v)
-              (does-on (Tree.run-one (send m (pattern-of c)) (children-of list)) (Tree.run-part q (children-of list)) before after at r mid next refl (done .buffer) (done .place)
+              (does-on (Tree.run-one (send m c) (children-of list)) (Tree.run-part q (children-of list)) before after at r mid next refl (done .buffer) (done .place)
               (rest .runs d K S q (rest-reads d K S g part 8 plain l q y)));
           most = omega (arith, done .most, rest .most, length-take (length part - 8) (drop 8 part), length-drop 8 part);
           kept = rest .kept ∙ ap length (done .buffer) ∙ simp length-sets;

@@ -2,19 +2,18 @@
 -- Assumes nothing.
 use Prim.Native.Nat.{ℕ, suc, _+_, _*_, _/_, _%_, _<_, _≤_}
 use native.Mathlib.Omega.{arith}
-use mathlib.Core.Path.{_≡_, refl, _∙_, ap}
-use mathlib.Core.Bool.{Bool, true, false, _||_}
+use mathlib.Core.Path.{_≡_, refl, sym, _∙_, ap}
+use mathlib.Core.Bool.{Bool, true, false}
 use mathlib.Core.List.{List, [], _∷_, _++_}
 use lib.Dec.{eqb}
 use lib.ListN.{length, getD, drop, set, length-drop}
 use lib.Seq.{sets, length-sets, drop-cons}
 use Rattle.model.specs.Words.{kept}
-use Rattle.model.specs.Tree.{Child}
+use Rattle.model.specs.Tree.{Child, Pattern, everyone, of-class}
 use Rattle.model.specs.Guards.{concerns}
 use Rattle.model.specs.Commands.{Sent, sent-to}
-use Rattle.bodies.specs.GuardRecords.{pattern-of}
 use Rattle.sheet.specs.ChildList.{children-of, sent-bytes}
-use Rattle.commands.specs.Commands.{SendsAll}
+use Rattle.commands.specs.Commands.{concerned, SendsAll}
 use Rattle.node.proofs.CrewLaws.{no-pair}
 
 -- a run of stores in two parts
@@ -45,23 +44,32 @@ pair-at l i p =
     let e : 2 * (i + 1) ≡ suc (suc (2 * i)) = omega arith in
     rw (e, drop-cons l (2 * i) 0 (omega arith), drop-cons l (suc (2 * i)) 0 (omega arith))
 
--- a child is of the pattern
-pub concerns-told : (p : ℕ) (k : Child) → concerns (pattern-of p) k ≡ (eqb p 255 || eqb (k .class) p)
-unfolding concerns
-concerns-told p k = go (eqb p 255) refl
-  where
-    go : (b : Bool) → eqb p 255 ≡ b → concerns (pattern-of p) k ≡ (b || eqb (k .class) p)
-    go true e = rw e
-    go false e = rw e
+-- whether a child is of the pattern goes by its class
+pub concerns-told : (p : Pattern) (k : Child) → concerns p k ≡ concerned p (k .class)
+unfolding concerns concerned
+concerns-told everyone k = refl
+concerns-told (of-class i) k = refl
 
-module _ (l : List ℕ) (p m : ℕ) where
+pub all-meant : (i : ℕ) → true ≡ concerned everyone i
+unfolding concerns concerned
+all-meant i = refl
+
+pub one-meant : (j i : ℕ) → eqb i j ≡ concerned (of-class j) i
+unfolding concerns concerned
+one-meant j i = refl
+
+module _ (l : List ℕ) (p : Pattern) (m : ℕ) where
   -- what is sent to the children from pair i on
   abbrev pub left : ℕ → List Sent
-  left i = sent-to m (pattern-of p) i (children-of (drop (2 * i) l))
+  left i = sent-to m p i (children-of (drop (2 * i) l))
 
   -- that pair is of the pattern
   abbrev pub meant : ℕ → Bool
-  meant i = eqb p 255 || eqb (getD l (2 * i) 0) p
+  meant i = concerned p (getD l (2 * i) 0)
+
+  -- what was found of the class that was read
+  pub sent-told : (i x : ℕ) → x ≡ getD l (2 * i) 0 → (r : Bool) → r ≡ concerned p x → {b : Bool} → r ≡ b → meant i ≡ b
+  sent-told i x e r f g = rw (sym e) (sym f ∙ g)
 
   left-kept : (i : ℕ) → i < length l / 2 → left i ≡ kept (meant i) (record { place = i; command = m }) (left (i + 1))
   unfolding sent-to

@@ -2,18 +2,19 @@
 -- Assumes nothing.
 use Prim.Native.Nat.{ℕ, _+_, _*_, _-_, _<_, _≤_}
 use mathlib.Core.Path.{_≡_}
+use mathlib.Core.Bool.{Bool}
 use mathlib.Core.List.{List, _++_}
 use mathlib.Core.Option.{Option, none, some}
 use lib.Dec.{eqb}
 use lib.ListN.{length, take, drop}
 use lib.Seq.{sets}
 use Rattle.model.specs.Words.{maybe, least}
-use Rattle.model.specs.Tree.{Statement, Part}
+use Rattle.model.specs.Tree.{Pattern, Statement, Part}
+use Rattle.model.specs.Guards.{concerns}
 use Rattle.model.specs.Commands as Tree
 use Rattle.bodies.specs.Bytes.{records}
 use Rattle.sheet.specs.Contents.{body}
 use Rattle.bodies.specs.Clauses.{first-action, action-count, action-command, in-eights}
-use Rattle.bodies.specs.GuardRecords.{pattern-of}
 use Rattle.bodies.specs.StatementRecords.{if-from, part-at}
 use Rattle.bodies.specs.PartChecks.{parts-of}
 use Rattle.sheet.specs.Reading.{class-of}
@@ -25,10 +26,14 @@ use Rattle.commands.specs.declared.Ran.{Ran}
 use Rattle.commands.specs.declared.Handling.{Handling}
 use Rattle.commands.specs.declared.Handling.the-variants.{Ignored, Handled, Short}
 
+-- a child of class i is one of the pattern's, whatever its name
+unfoldable pub concerned : Pattern → ℕ → Bool
+concerned p i = concerns p (record { class = i; name = 0 })
+
 -- the command for each child of the pattern stands in the buffer, from a place on, as far as it reaches
-pub record SendsAll (list : List ℕ) (pattern command : ℕ) (before after : List ℕ) (at end : ℕ) : Type 0 where
-  pub buffer : after ≡ sets before at (sent-bytes (Tree.sent-to command (pattern-of pattern) 0 (children-of list)))
-  pub place : end ≡ at + length (sent-bytes (Tree.sent-to command (pattern-of pattern) 0 (children-of list)))
+pub record SendsAll (list : List ℕ) (pattern : Pattern) (command : ℕ) (before after : List ℕ) (at end : ℕ) : Type 0 where
+  pub buffer : after ≡ sets before at (sent-bytes (Tree.sent-to command pattern 0 (children-of list)))
+  pub place : end ≡ at + length (sent-bytes (Tree.sent-to command pattern 0 (children-of list)))
   pub most : end ≤ at + 12288
 
 abbrev pub moved-as : Moved → Option ℕ

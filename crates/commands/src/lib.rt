@@ -1,9 +1,15 @@
 // The handling of a command: the statements of its action clause are run, once to count the bytes and once to write them.
 use bodies::clauses::action_command;
+use bodies::kinds::Pattern;
+use bodies::kinds::class_at;
+use bodies::kinds::own_state_at;
+use bodies::kinds::pattern_at;
 use bodies::statements::part_length;
 use bodies::statements::statements_of;
 use bodies::words::byte_at;
+use bodies::words::narrow_at;
 use bodies::words::u16_at;
+use model::ChildClass;
 use model::OwnState;
 use node::values::guard_true;
 use sheet::judging::Places;
@@ -19,10 +25,11 @@ ghost use Prim.Native.Nat.{_+_, _*_, _/_, _%_, _<_, _≤_};
 ghost use lib.ListN.{length, set};
 ghost use lib.Seq.{sets};
 ghost use Rattle.bodies.specs.Bytes.{u16};
+ghost use Rattle.bodies.specs.Patterns.{pattern-as};
 ghost use Rattle.sheet.specs.Judgement.{Stands};
 ghost use Rattle.sheet.specs.ChildList.{children-of};
 ghost use Rattle.node.specs.Probing.{Crewed};
-ghost use Rattle.commands.specs.Commands.{SendsAll, Room, RunsPart, RunsIf, first-action-for, Handles};
+ghost use Rattle.commands.specs.Commands.{concerned, SendsAll, Room, RunsPart, RunsIf, first-action-for, Handles};
 
 // Whether a move_to ended the clause, and where it leads.
 pub enum Moved {
@@ -62,18 +69,28 @@ fn put(out: &mut [u8], at: usize, place: usize, command: u8)
     store(out, at + 2, command);
 }
 
+// A child of this class is one of the pattern's.
+fn is_meant(pattern: Pattern, class: ChildClass) -> bool
+    ensures { λ r. ⌜ r ≡ concerned (pattern-as pattern) (class .0) ⌝ }
+{
+    match pattern {
+        Pattern::Everyone => true,
+        Pattern::OfClass(one) => class.0 == one.0,
+    }
+}
+
 // The command for each child of the pattern, in list order; the place behind the last byte.
-fn send(list: &[u8], pattern: usize, command: u8, out: &mut [u8], at: usize) -> usize
+fn send(list: &[u8], pattern: Pattern, command: u8, out: &mut [u8], at: usize) -> usize
     requires { ⌜ (length (now list) ≤ 8192) × (at < 1000000000000) ⌝ }
-    ensures { λ r. ⌜ SendsAll (now (list .entry)) pattern command (now (out .entry)) (now (out .exit)) at r ⌝ }
+    ensures { λ r. ⌜ SendsAll (now (list .entry)) (pattern-as pattern) command (now (out .entry)) (now (out .exit)) at r ⌝ }
 {
     let mut end = at;
     let mut i = 0;
     while i < list.len() / 2 {
         let place = i;
-        let class = list[2 * place] as usize;
+        let meant = is_meant(pattern, class_at(list, 2 * place));
         i = i + 1;
-        if (pattern == 255) | (class == pattern) {
+        if meant {
             put(out, end, place, command);
             end = end + 3;
         }
@@ -95,18 +112,12 @@ fn run_list(g: &[u8], sets: [u32; 8], list: &[u8], part: &[u8], out: &mut [u8], 
     let kind = byte_at(part, 0);
     match kind {
         0 => {
-            let next = send(
-                list,
-                byte_at(part, 2),
-                (byte_at(part, 1) % 256) as u8,
-                out,
-                at,
-            );
+            let next = send(list, pattern_at(part, 2), narrow_at(part, 1), out, at);
             run_list(g, sets, list, &part[8..], out, next)
         }
         1 => Ran {
             at,
-            moved: Moved::To(OwnState((byte_at(part, 1) % 256) as u8)),
+            moved: Moved::To(own_state_at(part, 1)),
         },
         2 => {
             let n = part_length(part) * 8 + 8;

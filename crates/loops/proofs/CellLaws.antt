@@ -127,14 +127,18 @@ module _ (classes : List ℕ) (present : ℕ) where
         names-small = zeros-small 20 32 (omega arith);
       }
 
-  module _ (cs ns : List ℕ) (count j : ℕ) (r : Reading classes present cs ns count j) (turn : j < 256) where
+  -- the pair with number j, of a class x and a name y, is looked up
+  module _ (cs ns : List ℕ) (count j : ℕ) (r : Reading classes present cs ns count j) (turn : j < 256) (x y : ℕ) (ex : x ≡ j / 32) (ey : y ≡ j % 32) (t : Bool) (e : t ≡ cell-present classes present x y) where
+    told : {b : Bool} → t ≡ b → cell-present classes present (j / 32) (j % 32) ≡ b
+    told f = rw (sym ex, sym ey) (sym e ∙ f)
+
     -- a pair that is present and has room
-    pub reading-more : (t : Bool) → t ≡ cell-present classes present (j / 32) (j % 32) → t ≡ true → count < 20
-        → Reading classes present (set cs count (j / 32)) (set ns count (j % 32)) (count + 1) (j + 1)
+    pub reading-more : t ≡ true → count < 20 → Reading classes present (set cs count x) (set ns count y) (count + 1) (j + 1)
     unfolding cell
-    reading-more t e f l =
-        let m = among-more j (sym e ∙ f) in
-        record {
+    reading-more f l =
+        let m = among-more j (told f) in
+        rw (ex, ey)
+        (record {
           inside = omega arith;
           fewer = (let x = r .fewer in omega arith);
           twenty-classes = length-set cs count (j / 32) ∙ r .twenty-classes;
@@ -143,13 +147,12 @@ module _ (classes : List ℕ) (present : ℕ) where
           all = λ u. held-more cs ns count (j / 32) (j % 32) (let x = r .twenty-classes in omega arith) (let x = r .twenty-names in omega arith) ∙ ap (λ (k : List Child). k ++ (cell j ∷ [])) (r .all (omega arith)) ∙ sym m;
           classes-small = set-small cs count (j / 32) 8 (omega arith) (r .classes-small);
           names-small = set-small ns count (j % 32) 32 (omega arith) (r .names-small);
-        }
+        })
 
     -- a pair that is present, past the twentieth
-    pub reading-full : (t : Bool) → t ≡ cell-present classes present (j / 32) (j % 32) → t ≡ true → 20 ≤ count
-        → Reading classes present cs ns (count + 1) (j + 1)
-    reading-full t e f l =
-        let m = among-more j (sym e ∙ f) in
+    pub reading-full : t ≡ true → 20 ≤ count → Reading classes present cs ns (count + 1) (j + 1)
+    reading-full f l =
+        let m = among-more j (told f) in
         record {
           inside = omega arith;
           fewer = (let x = r .fewer in omega arith);
@@ -162,9 +165,9 @@ module _ (classes : List ℕ) (present : ℕ) where
         }
 
     -- a pair that is not present
-    pub reading-past : (t : Bool) → t ≡ cell-present classes present (j / 32) (j % 32) → t ≡ false → Reading classes present cs ns count (j + 1)
-    reading-past t e f =
-        let m = among-past j (sym e ∙ f) in
+    pub reading-past : t ≡ false → Reading classes present cs ns count (j + 1)
+    reading-past f =
+        let m = among-past j (told f) in
         record {
           inside = omega arith;
           fewer = (let x = r .fewer in omega arith);
@@ -226,15 +229,15 @@ module _ (cs ns : List ℕ) (n k : ℕ) where
         let d : Child = record { class = 0; name = 0 } in
         rw (chosen-from (held cs ns n) k (i - 1) d (let x = length-held in let y = s .inside in omega arith), z, at-held (i - 1) d (let y = s .inside in omega arith))
 
-    pub spreading-more : (r : ℕ) → bitAnd (k / 2 ^ (i - 1)) 1 ≡ 1 → getD cs (i - 1) 0 < 8 → r ≡ bitOr (getD sets (getD cs (i - 1) 0) 0) (2 ^ getD ns (i - 1) 0) → r < 2 ^ 32
-        → Spreading cs ns n k (set sets (getD cs (i - 1) 0) r) (i - 1)
-    spreading-more r t l e u =
+    pub spreading-more : (r : ℕ) → bitAnd (k / 2 ^ (i - 1)) 1 ≡ 1 → (x y : ℕ) → x ≡ getD cs (i - 1) 0 → y ≡ getD ns (i - 1) 0 → x < 8 → r ≡ bitOr (getD sets x 0) (2 ^ y) → r < 2 ^ 32
+        → Spreading cs ns n k (set sets x r) (i - 1)
+    spreading-more r t x y ex ey l e u =
         let h : has k (i - 1) ≡ true = sym (shifted k (i - 1)) ∙ ap (λ (x : ℕ). eqb x 1) t in
         record {
           inside = (let y = s .inside in omega arith);
-          eight = length-set sets (getD cs (i - 1) 0) r ∙ s .eight;
-          narrow = set-small sets (getD cs (i - 1) 0) r (2 ^ 32) u (s .narrow);
-          shown = rw (step, h, e) (shows-more sets (chosen (drop i (held cs ns n)) (k / 2 ^ i)) (getD cs (i - 1) 0) (getD ns (i - 1) 0) (let x = s .eight in omega arith) (s .shown));
+          eight = length-set sets x r ∙ s .eight;
+          narrow = set-small sets x r (2 ^ 32) u (s .narrow);
+          shown = rw (step, sym ex, sym ey, h, e) (shows-more sets (chosen (drop i (held cs ns n)) (k / 2 ^ i)) x y (let z = s .eight in omega arith) (s .shown));
         }
 
     pub spreading-past : (bitAnd (k / 2 ^ (i - 1)) 1 ≡ 1 → ⊥) → Spreading cs ns n k sets (i - 1)

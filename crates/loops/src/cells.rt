@@ -5,8 +5,8 @@ use model::ChildName;
 use node::crews::has_name;
 use node::crews::with_name;
 ghost use mathlib.Core.Path.{_≡_};
-ghost use Prim.Native.Nat.{_<_, _≤_};
-ghost use lib.ListN.{length};
+ghost use Prim.Native.Nat.{_<_, _≤_, _/_, _%_};
+ghost use lib.ListN.{length, getD};
 ghost use Rattle.loops.specs.Configurations.{chosen};
 ghost use Rattle.loops.specs.Cells.{cell-present, AllSmall, CellsAre, cells-of, Spreads, counts-on};
 
@@ -15,6 +15,37 @@ pub struct Cells {
     pub classes: [u8; 20],
     pub names: [u8; 20],
     pub count: usize,
+}
+
+// The class of pair j, of all pairs of a class below 8 and a name below 32 in rising order.
+fn class_numbered(j: u16) -> ChildClass
+    requires { ⌜ j < 256 ⌝ }
+    ensures { λ r. ⌜ r .0 ≡ j / 32 ⌝ }
+{
+    ChildClass((j / 32) as u8)
+}
+
+// The name of pair j.
+fn name_numbered(j: u16) -> ChildName
+    ensures { λ r. ⌜ r .0 ≡ j % 32 ⌝ }
+{
+    ChildName((j % 32) as u8)
+}
+
+// The class of cell i.
+fn class_held(classes: [u8; 20], i: usize) -> ChildClass
+    requires { ⌜ i < 20 ⌝ }
+    ensures { λ r. ⌜ r .0 ≡ getD classes i 0 ⌝ }
+{
+    ChildClass(classes[i])
+}
+
+// The name of cell i.
+fn name_held(names: [u8; 20], i: usize) -> ChildName
+    requires { ⌜ i < 20 ⌝ }
+    ensures { λ r. ⌜ r .0 ≡ getD names i 0 ⌝ }
+{
+    ChildName(names[i])
 }
 
 // The name is in the class, and the class is present.
@@ -39,14 +70,14 @@ pub fn read_cells(classes: &[u8], present: u8) -> Cells
     let mut count = 0;
     let mut j: u16 = 0;
     while j < 256 {
-        let class = (j / 32) as u8;
-        let name = (j % 32) as u8;
-        let held = cell_present(classes, present, ChildClass(class), ChildName(name));
+        let class = class_numbered(j);
+        let name = name_numbered(j);
+        let held = cell_present(classes, present, class, name);
         j = j + 1;
         if held {
             if count < 20 {
-                held_classes[count] = class;
-                held_names[count] = name;
+                held_classes[count] = class.0;
+                held_names[count] = name.0;
                 count = count + 1;
             } else {
                 count = count + 1;
@@ -72,8 +103,9 @@ pub fn spread(cells: Cells, k: u32) -> [u32; 8]
     while 0 < i {
         i = i - 1;
         if (k >> i) & 1 == 1 {
-            let c = classes[i] as usize;
-            sets[c] = with_name(sets[c], ChildName(names[i]));
+            let class = class_held(classes, i);
+            let c = class.0 as usize;
+            sets[c] = with_name(sets[c], name_held(names, i));
         }
     }
     sets

@@ -27,11 +27,11 @@ pub enum Found {
 }
 
 // Where the next move from state q leads; 255 where none is made.
-fn next_from(sheet: &[u8], p: Places, q: u8, sets: [u32; 8]) -> u8
+fn next_from(sheet: &[u8], p: Places, q: OwnState, sets: [u32; 8]) -> u8
     requires { ⌜ Stands (now sheet) p ⌝ }
-    ensures { λ r. ⌜ MovesTo (now (sheet .entry)) sets q r ⌝ }
+    ensures { λ r. ⌜ MovesTo (now (sheet .entry)) sets (q .0) r ⌝ }
 {
-    let taken = turn_from(sheet, p, OwnState(q), sets);
+    let taken = turn_from(sheet, p, q, sets);
     match taken {
         Turn::Moves(t) => t.0,
         Turn::Stops(_) => 255,
@@ -48,7 +48,7 @@ pub fn tabulate(sheet: &[u8], p: Places, sets: [u32; 8]) -> Table
     let mut q: u8 = 0;
     while (q as usize) < n {
         let i = q as usize;
-        to[i] = next_from(sheet, p, q, sets);
+        to[i] = next_from(sheet, p, OwnState(q), sets);
         q = q + 1;
     }
     Table { to }

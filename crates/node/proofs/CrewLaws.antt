@@ -12,13 +12,12 @@ use lib.Bits.{bitAnd, bitOr, and-mask}
 use lib.ListN.{length, getD, set, drop, replicate, getD-replicate, length-drop, length-set, List·getD-eq-default}
 use lib.Pow.{shl-exact}
 use lib.Seq.{drop-cons, getD-set-same, getD-set-other}
-use borrow.Author.Tests.{eqb-true, eqb-false, eq-eqb, ne-eqb, lt-ltb, ltb-true}
+use borrow.Author.Tests.{eqb-true, eqb-false, lt-ltb, ltb-true}
 use Rattle.model.specs.Words.{has, some-in, some-below}
-use Rattle.model.specs.Tree.{Child}
+use Rattle.model.specs.Tree.{Child, everyone, of-class}
 use Rattle.model.specs.Crews.{occupied}
 use Rattle.model.proofs.Words.{and-left, and-right, true-not-false}
 use Rattle.sheet.specs.ChildList.{children-of}
-use Rattle.bodies.specs.GuardRecords.{pattern-of}
 use Rattle.bodies.proofs.Bits.{has-none}
 use Rattle.node.specs.Sets.{Shows, Names, seen, union-of}
 use Rattle.node.proofs.BitLaws.{has-or, has-pow}
@@ -97,35 +96,31 @@ down-start l =
       shown = λ j m p q. rw (no-pair (drop (2 * (length l / 2)) l) (simp length-drop (omega arith)), getD-replicate {A = ℕ} 8 j 0 0 p) (has-none m);
     }
 
--- the sets have room for that pair
-abbrev fits : List ℕ → ℕ → Bool
-fits l i = ltb (class-before l i) 8 && ltb (name-before l i) 32
+-- the sets have room for a class x and a name y
+abbrev fits : ℕ → ℕ → Bool
+fits x y = ltb x 8 && ltb y 32
 
-pub room : (l : List ℕ) (i : ℕ) → fits l i ≡ true → (class-before l i < 8) × (name-before l i < 32)
-room l i t =
-    let c = ltb (class-before l i) 8 in
-    let n = ltb (name-before l i) 32 in
-    (ltb-true (class-before l i) 8 (and-left c n t), ltb-true (name-before l i) 32 (and-right c n t))
+pub room : (x y : ℕ) → fits x y ≡ true → (x < 8) × (y < 32)
+room x y t = (ltb-true x 8 (and-left (ltb x 8) (ltb y 32) t), ltb-true y 32 (and-right (ltb x 8) (ltb y 32) t))
 
-module _ (l sets : List ℕ) (i : ℕ) (d : Down l sets i) (turn : 0 < i) where
+module _ (l sets : List ℕ) (i : ℕ) (d : Down l sets i) (turn : 0 < i) (x y : ℕ) (ex : x ≡ class-before l i) (ey : y ≡ name-before l i) where
   -- the pair before is put into its set
-  pub down-more : (r : ℕ) → fits l i ≡ true → r ≡ bitOr (getD sets (class-before l i) 0) (2 ^ name-before l i)
-      → Down l (set sets (class-before l i) r) (i - 1)
+  pub down-more : (r : ℕ) → fits x y ≡ true → r ≡ bitOr (getD sets x 0) (2 ^ y) → Down l (set sets x r) (i - 1)
   down-more r t e =
-      let small = room l i t in
+      let small = room x y t in
       record {
         inside = omega arith;
-        eight = length-set sets (class-before l i) r ∙ d .eight;
-        shown = rw (pair-cons l i turn (d .inside), e) (shows-more sets (children-of (drop (2 * i) l)) (class-before l i) (name-before l i) (omega arith) (d .shown));
+        eight = length-set sets x r ∙ d .eight;
+        shown = rw (pair-cons l i turn (d .inside), sym ex, sym ey, e) (shows-more sets (children-of (drop (2 * i) l)) x y (omega arith) (d .shown));
       }
 
   -- the sets have no room for the pair before
-  pub down-past : fits l i ≡ false → Down l sets (i - 1)
+  pub down-past : fits x y ≡ false → Down l sets (i - 1)
   down-past t =
       record {
         inside = omega arith;
         eight = d .eight;
-        shown = rw (pair-cons l i turn (d .inside)) (shows-past sets (children-of (drop (2 * i) l)) (class-before l i) (name-before l i) t (d .shown));
+        shown = rw (pair-cons l i turn (d .inside), sym ex, sym ey) (shows-past sets (children-of (drop (2 * i) l)) x y t (d .shown));
       }
 
 -- at pair 0 the sets show the whole list
@@ -146,13 +141,13 @@ unfolding union-of
 union-more sets i all e = rw (add-one i, e)
 
 -- the names of all children, of a class, and of a class that has no set
-pub names-all : (sets : List ℕ) (p r : ℕ) → p ≡ 255 → r ≡ union-of sets 8 → Names sets (pattern-of p) r
+pub names-all : (sets : List ℕ) (r : ℕ) → r ≡ union-of sets 8 → Names sets everyone r
 unfolding seen
-names-all sets p r e u n = rw (eq-eqb p 255 e, u) (union-has sets 8 n)
+names-all sets r u n = rw u (union-has sets 8 n)
 
-pub names-one : (sets : List ℕ) (p : ℕ) → (p ≡ 255 → ⊥) → Names sets (pattern-of p) (getD sets p 0)
+pub names-one : (sets : List ℕ) (i : ℕ) → Names sets (of-class i) (getD sets i 0)
 unfolding seen
-names-one sets p e n = rw (ne-eqb p 255 e)
+names-one sets i n = refl
 
-pub names-none : (sets : List ℕ) (p : ℕ) → (p ≡ 255 → ⊥) → length sets ≤ p → Names sets (pattern-of p) 0
-names-none sets p e l = subst (λ (x : ℕ). Names sets (pattern-of p) x) (List·getD-eq-default sets 0 l) (names-one sets p e)
+pub names-none : (sets : List ℕ) (i : ℕ) → length sets ≤ i → Names sets (of-class i) 0
+names-none sets i l = subst (λ (x : ℕ). Names sets (of-class i) x) (List·getD-eq-default sets 0 l) (names-one sets i)

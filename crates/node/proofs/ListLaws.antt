@@ -63,14 +63,14 @@ module _ (classes l : List ℕ) where
       child-right-before : ℕ → Bool
       child-right-before j = child-in classes (record { class = class-before l j; name = name-before l j })
 
-  module _ (i : ℕ) (d : Checked classes l i) (turn : 0 < i) (r : Bool) (e : r ≡ child-right classes (class-before l i) (name-before l i)) where
+  module _ (i : ℕ) (d : Checked classes l i) (turn : 0 < i) (x y : ℕ) (ex : x ≡ class-before l i) (ey : y ≡ name-before l i) (r : Bool) (e : r ≡ child-right classes x y) where
     -- the pair before is right too
     pub checked-more : r ≡ true → Checked classes l (i - 1)
     unfolding every child-in
     checked-more t =
         record {
           inside = (let h = d .inside in omega arith);
-          right = rw (pair-cons l i turn (d .inside)) (and-both (child-right classes (class-before l i) (name-before l i)) (every (child-in classes) (children-of (drop (2 * i) l))) (sym e ∙ t) (d .right));
+          right = rw (pair-cons l i turn (d .inside)) (and-both (child-right classes (class-before l i) (name-before l i)) (every (child-in classes) (children-of (drop (2 * i) l))) (rw (ex, ey) at (sym e ∙ t)) (d .right));
         }
 
     -- the pair before is wrong, and so is the list
@@ -83,7 +83,7 @@ module _ (classes l : List ℕ) where
             not-not-true (every (child-in classes) (children-of l))
             (λ h.
             let a : every (child-in classes) (children-of (drop (2 * (i - 1)) l)) ≡ true = right-from h (i - 1) (let b = d .inside in omega arith) in
-            true-not-false (and-left (child-right classes (class-before l i) (name-before l i)) (every (child-in classes) (children-of (drop (2 * i) l))) (rw (pair-cons l i turn (d .inside)) at a)) (sym e ∙ f))
+            true-not-false (and-left (child-right classes (class-before l i) (name-before l i)) (every (child-in classes) (children-of (drop (2 * i) l))) (rw (pair-cons l i turn (d .inside)) at a)) (rw (ex, ey) at (sym e ∙ f)))
 
   -- an odd list, and one of more than 4,096 children
   pub odd-wrong : (length l % 2 ≡ 0 → ⊥) → false ≡ pairs-right classes l

@@ -10,7 +10,7 @@ use lib.Bits.{bitAnd}
 use lib.Dec.{eqb}
 use lib.ListN.{length}
 use Rattle.model.specs.Words.{has, each, some-below}
-use Rattle.model.specs.Tree.{Guard, both, either, opposite}
+use Rattle.model.specs.Tree.{Pattern, Guard, both, either, opposite}
 use Rattle.model.proofs.Words.{clash}
 use Rattle.bodies.specs.Bytes.{byte, u32, record-at}
 use Rattle.bodies.specs.GuardRecords.{pattern-of, Read, got, broken, Shape, leaf, two, one, unknown, shape, shaped, guard-at, guard-from}
@@ -21,7 +21,7 @@ use Rattle.node.specs.declared.values.Value.the-variants.{Holds, Broken}
 use Rattle.node.proofs.BitLaws.{some-met, some-not-met, all-met, all-not-met}
 
 -- an atom by mask: the names occupied in the pattern, met with the set
-module _ (sets : List ℕ) (k p set occ : ℕ) (small : occ < 2 ^ 32) (names : Names sets (pattern-of p) occ) where
+module _ (sets : List ℕ) (k : ℕ) (p : Pattern) (set occ : ℕ) (small : occ < 2 ^ 32) (names : Names sets p occ) where
   pub any-met : k ≡ 0 → not (eqb (bitAnd occ set) 0) ≡ atom-value sets k p set
   unfolding atom-value atom-in
   any-met z = rw z (some-met 32 occ set small ∙ ap (some-below 32) (fun-ext λ n. ap (λ (b : Bool). b && has set n) (names n)))
@@ -61,7 +61,7 @@ module _ (sets : List ℕ) (d : ℕ) (gs : List ℕ) (i : ℕ) where
 
   module _ (k : ℕ) where
     pub value-atom : i < length gs / 8 → k ≡ byte (record-at gs i) 0 → k ≤ 3
-        → (r : List ℕ) → r ≡ record-at gs i → (p set : ℕ) → p ≡ byte r 1 → set ≡ u32 r 4
+        → (r : List ℕ) → r ≡ record-at gs i → (p : Pattern) (set : ℕ) → p ≡ pattern-of (byte r 1) → set ≡ u32 r 4
         → (x : Bool) → x ≡ atom-value sets k p set → value-of sets (guard-at d gs i) ≡ Holds x (i + 1)
     unfolding shaped holds-in atom-value
     value-atom h e l r q p set a b x t = ap (value-of sets) (read-as d gs i k (leaf (kind-of k)) h e (shape-leaf k l)) ∙ rw (t, a, b, q)

@@ -5,9 +5,9 @@ use mathlib.Core.Path.{_≡_}
 use mathlib.Core.Bool.{Bool, false}
 use mathlib.Core.List.{List, [], _∷_}
 use lib.ListN.{length, getD}
-use Rattle.model.specs.Tree.{any-in, any-not-in, all-in, all-not-in}
+use Rattle.model.specs.Tree.{Pattern, any-in, any-not-in, all-in, all-not-in}
 use Rattle.bodies.specs.Bytes.{byte, record-at}
-use Rattle.bodies.specs.GuardRecords.{Read, got, broken, pattern-of}
+use Rattle.bodies.specs.GuardRecords.{Read, got, broken}
 use Rattle.node.specs.Sets.{atom-in, holds-in}
 use Rattle.node.specs.declared.values.Value.{Value}
 use Rattle.node.specs.declared.values.Value.the-variants.{Holds, Broken}
@@ -17,8 +17,8 @@ value-of sets (got g e) = Holds (holds-in sets g) e
 value-of sets broken = Broken
 
 -- the truth of an atom's record of kind k
-unfoldable pub atom-value : List ℕ → ℕ → ℕ → ℕ → Bool
-atom-value sets k p set = atom-in sets (getD (any-in ∷ any-not-in ∷ all-in ∷ all-not-in ∷ []) k any-in) (pattern-of p) set
+unfoldable pub atom-value : List ℕ → ℕ → Pattern → ℕ → Bool
+atom-value sets k p set = atom-in sets (getD (any-in ∷ any-not-in ∷ all-in ∷ all-not-in ∷ []) k any-in) p set
 
 -- the truth of the guard that begins at a place; false where none does
 unfoldable pub truth-of : List ℕ → Read → Bool

@@ -1,11 +1,13 @@
 // A crew as one name set per child class: bit n of set i says that some child of class i has name n.
-use model::ChildClass;
+use bodies::kinds::Pattern;
+use bodies::kinds::class_at;
+use bodies::kinds::name_at;
 use model::ChildName;
 ghost use mathlib.Core.Path.{_≡_};
 ghost use Prim.Native.Nat.{_^_, _<_};
 ghost use lib.Bits.{bitOr};
 ghost use Rattle.model.specs.Words.{has};
-ghost use Rattle.bodies.specs.GuardRecords.{pattern-of};
+ghost use Rattle.bodies.specs.Patterns.{pattern-as};
 ghost use Rattle.sheet.specs.ChildList.{children-of};
 ghost use Rattle.node.specs.Sets.{Shows, union-of, Names};
 
@@ -33,8 +35,8 @@ pub fn occupy(list: &[u8]) -> [u32; 8]
     let mut i = list.len() / 2;
     while 0 < i {
         i = i - 1;
-        let class = ChildClass(list[2 * i]);
-        let name = ChildName(list[2 * i + 1]);
+        let class = class_at(list, 2 * i);
+        let name = name_at(list, 2 * i + 1);
         let c = class.0 as usize;
         if (class.0 < 8) & (name.0 < 32) {
             sets[c] = with_name(sets[c], name);
@@ -57,14 +59,17 @@ fn union(sets: [u32; 8]) -> u32
 }
 
 // The names that some child of the pattern has: of all classes, or of one.
-pub fn occupied_names(sets: [u32; 8], pattern: usize) -> u32
-    ensures { λ r. ⌜ Names sets (pattern-of pattern) r ⌝ }
+pub fn occupied_names(sets: [u32; 8], pattern: Pattern) -> u32
+    ensures { λ r. ⌜ Names sets (pattern-as pattern) r ⌝ }
 {
-    if pattern == 255 {
-        return union(sets);
+    match pattern {
+        Pattern::Everyone => union(sets),
+        Pattern::OfClass(class) => {
+            let i = class.0 as usize;
+            if i < 8 {
+                return sets[i];
+            }
+            0
+        }
     }
-    if pattern < 8 {
-        return sets[pattern];
-    }
-    0
 }

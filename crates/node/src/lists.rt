@@ -1,6 +1,8 @@
 // Child lists: pairs of bytes (class, name), checked against the sheet's child classes.
 use crate::crews::has_name;
 use bodies::clauses::name_set;
+use bodies::kinds::class_at;
+use bodies::kinds::name_at;
 use model::ChildClass;
 use model::ChildName;
 ghost use mathlib.Core.Path.{_≡_};
@@ -38,7 +40,7 @@ pub fn list_ok(classes: &[u8], list: &[u8]) -> bool
     let mut i = n / 2;
     while 0 < i {
         i = i - 1;
-        if !child_ok(classes, ChildClass(list[2 * i]), ChildName(list[2 * i + 1])) {
+        if !child_ok(classes, class_at(list, 2 * i), name_at(list, 2 * i + 1)) {
             return false;
         }
     }

@@ -20,19 +20,19 @@ pub fn when_phase(sheet: &[u8], p: Places, q: OwnState, sets: [u32; 8]) -> Phase
     ensures { λ r. ⌜ Phases (now (sheet .entry)) sets (q .0) r ⌝ }
 {
     let most = state_count(sheet, p);
-    let mut at = q.0;
+    let mut at = q;
     let mut moves = 0;
     while moves < most {
-        let taken = turn_from(sheet, p, OwnState(at), sets);
+        let taken = turn_from(sheet, p, at, sets);
         match taken {
             Turn::Stops(e) => {
-                return Phase::Settled(e, OwnState(at), moves);
+                return Phase::Settled(e, at, moves);
             }
             Turn::Moves(t) => {
-                at = t.0;
+                at = t;
             }
         }
         moves = moves + 1;
     }
-    Phase::Loops(OwnState(at), moves)
+    Phase::Loops(at, moves)
 }

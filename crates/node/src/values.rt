@@ -1,11 +1,14 @@
 // The evaluator of guards on name sets: it calls itself on each operand.
 use crate::crews::occupied_names;
+use bodies::kinds::Pattern;
+use bodies::kinds::pattern_at;
 use bodies::words::byte_at;
 use bodies::words::record_at;
 use bodies::words::u32_at;
 ghost use mathlib.Core.Path.{_≡_};
 ghost use Prim.Native.Nat.{_≤_};
 ghost use Rattle.bodies.specs.GuardRecords.{guard-at, guard-from};
+ghost use Rattle.bodies.specs.Patterns.{pattern-as};
 ghost use Rattle.node.specs.Values.{value-of, atom-value, truth-of, Operator};
 
 // A guard's truth with the record after it, or it is broken.
@@ -15,9 +18,9 @@ pub enum Value {
 }
 
 // The truth of an atom of kind 0 to 3, by mask: what is occupied in the pattern, met with the set.
-fn atom_holds(kind: usize, pattern: usize, set: u32, sets: [u32; 8]) -> bool
+fn atom_holds(kind: usize, pattern: Pattern, set: u32, sets: [u32; 8]) -> bool
     requires { ⌜ kind ≤ 3 ⌝ }
-    ensures { λ r. ⌜ r ≡ atom-value sets kind pattern set ⌝ }
+    ensures { λ r. ⌜ r ≡ atom-value sets kind (pattern-as pattern) set ⌝ }
 {
     let occupied = occupied_names(sets, pattern);
     let both = occupied & set;
@@ -40,7 +43,7 @@ pub fn guard_holds(g: &[u8], from: usize, depth: usize, sets: [u32; 8]) -> Value
     let kind = byte_at(r, 0);
     match kind {
         0..=3 => Value::Holds(
-            atom_holds(kind, byte_at(r, 1), u32_at(r, 4), sets),
+            atom_holds(kind, pattern_at(r, 1), u32_at(r, 4), sets),
             from + 1,
         ),
         4..=6 => operator_holds(g, from, depth, kind, sets),

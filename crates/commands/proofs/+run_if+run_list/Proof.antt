@@ -18,7 +18,10 @@ use Rattle.commands.proofs.+run_if+run_list.Lts-run_list as run-list-lt
 use Rattle.commands.proofs.send.Reads as send-reads
 use Rattle.node.proofs.values.guard_true.Reads as guard-true-reads
 use Rattle.bodies.proofs.statements.part_length.Reads as part-length-reads
+use Rattle.bodies.proofs.kinds.own_state_at.Reads as own-state-at-reads
+use Rattle.bodies.proofs.kinds.pattern_at.Reads as pattern-at-reads
 use Rattle.bodies.proofs.words.byte_at.Reads as byte-at-reads
+use Rattle.bodies.proofs.words.narrow_at.Reads as narrow-at-reads
 use Rattle.bodies.proofs.words.u16_at.Reads as u16-at-reads
 use Rattle.commands.proofs.+run_if+run_list.{statement}
 use Rattle.commands.proofs.+run_if+run_list.Tie.{close}
@@ -64,7 +67,7 @@ module _ (t : ℕ) where
       run-else (a .g .now) (a .list .now) (a .s .now) (a .out .now) _ (a .at) _ (a .sets) (c .before .before .before .before .before .before .before .before .before .before .before .before .before .pre .1 .0 .crewed) (c .before .before .before .before .before .before .before .before .u16-at .result * 8 + 8) _ _ (c .before .before .before .before .before .before .before .before .before .before .before .before .before .pre .1 .1) (omega arith) (c .before .before .before .before .before .before .before .u16-at2 .ensures .0) (c .before .before .before .before .before .before .guard-true .ensures) (c .before .before .before .before .before .if1 .left) (c .before .before .run-list2 .ensures)
 
   abbrev run-list-uses : run-list-lts.Claims
-  run-list-uses = (byte-at-reads.Asked, byte-at-reads.Learnt, send-reads.Asked, send-reads.Learnt, run-list-below, run-list.Post, part-length-reads.Asked, part-length-reads.Learnt, run-if-below, run-if.Post)
+  run-list-uses = (byte-at-reads.Asked, byte-at-reads.Learnt, pattern-at-reads.Asked, pattern-at-reads.Learnt, narrow-at-reads.Asked, narrow-at-reads.Learnt, send-reads.Asked, send-reads.Learnt, run-list-below, run-list.Post, own-state-at-reads.Asked, own-state-at-reads.Learnt, part-length-reads.Asked, part-length-reads.Learnt, run-if-below, run-if.Post)
 
   run-list-returns : run-list-lts.Need-returns run-list-uses run-list-at run-list.Post
   run-list-returns c =
@@ -88,12 +91,12 @@ module _ (t : ℕ) where
   run-list-returns-3 : run-list-lts.Need-returns-3 run-list-uses run-list-at run-list.Post
   run-list-returns-3 c =
       let a = c .before .before .before .before .before .before .before .before .before .before .before .before .before .before .before .before .before .before .args in
-      run-sent (a .g .now) (a .list .now) (a .part .now) (a .out .now) (a .at) (c .before .before .before .before .before .before .before .before .before .before .before .before .before .if1 .left) _ _ _ _ _ _ (omega arith) (omega arith) (c .before .before .before .before .before .before .before .before .before .before .byte-at2 .ensures .0) (c .before .before .before .before .before .before .before .send .ensures) (c .before .before .run-list .ensures)
+      run-sent (a .g .now) (a .list .now) (a .part .now) (a .out .now) (a .at) (c .before .before .before .before .before .before .before .before .before .before .before .before .before .if1 .left) _ _ _ _ _ _ (omega arith) (c .before .before .before .before .before .before .before .before .before .narrow-at .ensures) (c .before .before .before .before .before .before .before .before .before .before .pattern-at .ensures) (c .before .before .before .before .before .before .before .send .ensures) (c .before .before .run-list .ensures)
 
   run-list-returns-4 : run-list-lts.Need-returns-4 run-list-uses run-list-at run-list.Post
   run-list-returns-4 c =
       let a = c .before .before .before .before .before .before .before .before .args in
-      run-go (a .g .now) (a .list .now) (a .part .now) (a .out .now) (a .at) (c .before .before .before .if1 .left) _ (omega arith) (omega arith)
+      run-go (a .g .now) (a .list .now) (a .part .now) (a .out .now) (a .at) (c .before .before .before .if1 .left) _ (omega arith) (c .own-state-at .ensures)
 
   run-list-returns-5 : run-list-lts.Need-returns-5 run-list-uses run-list-at run-list.Post
   run-list-returns-5 c =
@@ -114,4 +117,4 @@ pub +run-if+run-list-spec : {M : Type 1} → statement M
 +run-if+run-list-spec =
     close μ-run-if μ-run-list
     (λ t. run-if-lts.spec (run-if-uses t) (run-if-at t) run-if.Post (λ c κs. search needs) (λ c. search needs) (λ c. search needs) (λ c κs. search needs) (λ c κs. search needs) (λ c. search needs) (λ c. search needs) (λ c. search needs) (run-if-run-list-requires t) (λ c. search needs) (run-if-returns t) (λ c. search needs) (λ c. search needs) (λ c. search needs) (run-if-run-list-requires-2 t) (λ c. search needs) (run-if-returns-2 t))
-    (λ t. run-list-lts.spec (run-list-uses t) (run-list-at t) run-list.Post (run-list-returns t) (λ c κs. search needs) (λ c κs. search needs) (λ c κs. search needs) (λ c. search needs) (λ c κs. search needs) (λ c. search needs) (λ c. search needs) (λ c. search needs) (run-list-run-list-requires t) (λ c κs. search needs) (λ c. search needs) (λ c κs. search needs) (λ c. search needs) (λ c. search needs) (run-list-returns-2 t) (λ c. search needs) (λ c. search needs) (λ c. search needs) (run-list-run-if-requires t) (λ c. search needs) (λ c. search needs) (λ c. search needs) (λ c. search needs) (λ c. search needs) (run-list-run-list-requires-2 t) (λ c. search needs) (run-list-returns-3 t) (run-list-returns-4 t) (λ c. search needs) (run-list-returns-5 t) (λ c. search needs) (run-list-returns-6 t) (run-list-returns-7 t))
+    (λ t. run-list-lts.spec (run-list-uses t) (run-list-at t) run-list.Post (run-list-returns t) (λ c κs. search needs) (λ c κs. search needs) (λ c κs. search needs) (λ c κs. search needs) (λ c. search needs) (λ c. search needs) (λ c. search needs) (run-list-run-list-requires t) (λ c κs. search needs) (λ c κs. search needs) (λ c. search needs) (λ c. search needs) (run-list-returns-2 t) (λ c. search needs) (λ c. search needs) (λ c. search needs) (run-list-run-if-requires t) (λ c. search needs) (λ c. search needs) (λ c. search needs) (λ c. search needs) (λ c. search needs) (run-list-run-list-requires-2 t) (λ c. search needs) (run-list-returns-3 t) (run-list-returns-4 t) (λ c. search needs) (run-list-returns-5 t) (λ c. search needs) (run-list-returns-6 t) (run-list-returns-7 t))

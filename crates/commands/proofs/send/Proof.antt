@@ -4,30 +4,30 @@ use Prim.Native.Nat.{_-_, _*_, _/_}
 use native.Mathlib.Omega.{arith}
 use borrow.Author.Needs.{needs}
 use lib.ListN.{length}
-use Rattle.commands.proofs.SendLaws.{Sending, send-more, send-past, send-end}
+use Rattle.bodies.specs.Patterns.{pattern-as}
+use Rattle.commands.proofs.SendLaws.{Sending, sent-told, send-more, send-past, send-end}
 use Rattle.commands.proofs.send.Statement.{statement}
 use Rattle.commands.proofs.send.Tie as tie
 
 abbrev Inv-loop : tie.InvT-loop
-Inv-loop list pattern command out₀ at end₀ i₀ out end i = Sending list pattern command out₀ at out end i
+Inv-loop list pattern command out₀ at end₀ i₀ out end i = Sending list (pattern-as pattern) command out₀ at out end i
 
 abbrev μ-loop : tie.MeasureT-loop
 μ-loop list pattern command out₀ at end₀ i₀ out end i = length list / 2 - i
 
-cast-class : tie.Need-cast-class Inv-loop μ-loop
-cast-class c = omega (arith, c .shared-slice-known2 .given (2 * c .before .before .loop .i))
-
 loop-again : tie.Need-loop-again Inv-loop μ-loop
 loop-again c =
-    let b = c .before .before .before .before in
-    send-more _ _ _ (b .before .before .before .loop .inv) (b .before .before .loop-test .taken) (b .if1 .taken) (c .before .before .put .ensures)
+    let b = c .before .before .before .before .before in
+    send-more _ _ _ (b .before .before .before .loop .inv) (b .before .before .loop-test .taken) (sent-told (b .before .before .before .before .before .before .args .list .now) _ (b .before .before .before .before .before .before .args .command) (b .before .before .before .loop .i) _ (b .before .class-at .ensures) _ (b .is-meant .ensures) (c .before .before .before .before .if1 .taken)) (c .before .before .put .ensures)
 
 loop-again-2 : tie.Need-loop-again-2 Inv-loop μ-loop
-loop-again-2 c = send-past _ _ _ (c .before .before .before .loop .inv) (c .before .before .loop-test .taken) (c .if1 .left)
+loop-again-2 c =
+    let b = c .before in
+    send-past _ _ _ (b .before .before .before .loop .inv) (b .before .before .loop-test .taken) (sent-told (b .before .before .before .before .before .before .args .list .now) _ (b .before .before .before .before .before .before .args .command) (b .before .before .before .loop .i) _ (b .before .class-at .ensures) _ (b .is-meant .ensures) (c .if1 .left))
 
 returns : tie.Need-returns Inv-loop μ-loop
 returns c = send-end _ _ _ (c .before .loop .inv) (c .loop-test .left) (c .before .before .before .before .pre .0)
 
 pub send-spec : {M : Type 1} → statement M
 send-spec =
-    tie.close (tie.spec Inv-loop μ-loop (λ c. search needs) (λ c. search needs) (λ c. search needs) cast-class (λ c. search needs) (λ c κs. search needs) (λ c. search needs) (λ c. search needs) loop-again (λ c. search needs) loop-again-2 (λ c. search needs) returns)
+    tie.close (tie.spec Inv-loop μ-loop (λ c. search needs) (λ c. search needs) (λ c κs. search needs) (λ c κs. search needs) (λ c. search needs) (λ c κs. search needs) (λ c. search needs) (λ c. search needs) loop-again (λ c. search needs) loop-again-2 (λ c. search needs) returns)

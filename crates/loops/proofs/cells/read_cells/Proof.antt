@@ -16,17 +16,23 @@ loop-holds : tie.Need-loop-holds Inv-loop μ-loop
 loop-holds c = reading-start _ _
 
 loop-again : tie.Need-loop-again Inv-loop μ-loop
-loop-again c = let b = c .before .before .before in reading-more _ _ _ _ _ _ (b .before .loop .inv) (b .loop-test .taken) _ (c .before .before .cell-present .ensures) (c .before .if1 .taken) (c .if2 .taken)
+loop-again c =
+    let b = c .before .before .before in
+    reading-more _ _ _ _ _ _ (b .before .before .before .loop .inv) (b .before .before .loop-test .taken) _ _ (b .before .class-numbered .ensures) (b .name-numbered .ensures) _ (c .before .before .cell-present .ensures) (c .before .if1 .taken) (c .if2 .taken)
 
 loop-again-2 : tie.Need-loop-again-2 Inv-loop μ-loop
-loop-again-2 c = let b = c .before .before .before in reading-full _ _ _ _ _ _ (b .before .loop .inv) (b .loop-test .taken) _ (c .before .before .cell-present .ensures) (c .before .if1 .taken) (c .if2 .left)
+loop-again-2 c =
+    let b = c .before .before .before in
+    reading-full _ _ _ _ _ _ (b .before .before .before .loop .inv) (b .before .before .loop-test .taken) _ _ (b .before .class-numbered .ensures) (b .name-numbered .ensures) _ (c .before .before .cell-present .ensures) (c .before .if1 .taken) (c .if2 .left)
 
 loop-again-3 : tie.Need-loop-again-3 Inv-loop μ-loop
-loop-again-3 c = let b = c .before .before in reading-past _ _ _ _ _ _ (b .before .loop .inv) (b .loop-test .taken) _ (c .before .cell-present .ensures) (c .if1 .left)
+loop-again-3 c =
+    let b = c .before .before in
+    reading-past _ _ _ _ _ _ (b .before .before .before .loop .inv) (b .before .before .loop-test .taken) _ _ (b .before .class-numbered .ensures) (b .name-numbered .ensures) _ (c .before .cell-present .ensures) (c .if1 .left)
 
 returns : tie.Need-returns Inv-loop μ-loop
 returns c = reading-end _ _ _ _ _ _ (c .before .loop .inv) (c .loop-test .left)
 
 pub read-cells-spec : {M : Type 1} → statement M
 read-cells-spec =
-    tie.close (tie.spec Inv-loop μ-loop loop-holds (λ c. search needs) (λ c. search needs) (λ c κs. search needs) (λ c. search needs) (λ c. search needs) (λ c. search needs) (λ c. search needs) (λ c. search needs) loop-again (λ c. search needs) (λ c. search needs) loop-again-2 (λ c. search needs) loop-again-3 returns)
+    tie.close (tie.spec Inv-loop μ-loop loop-holds (λ c κs. search needs) (λ c κs. search needs) (λ c κs. search needs) (λ c. search needs) (λ c. search needs) (λ c. search needs) (λ c. search needs) (λ c. search needs) loop-again (λ c. search needs) (λ c. search needs) loop-again-2 (λ c. search needs) loop-again-3 returns)

@@ -1,7 +1,7 @@
 -- `spread`: from the last cell down, the sets show what is chosen of the cells from i on.
 -- Assumes nothing.
 use borrow.Author.Needs.{needs}
-use Prim.Native.Nat.{_-_}
+use Prim.Native.Nat.{_-_, _<_}
 use native.Mathlib.Omega.{arith}
 use Rattle.loops.proofs.CellLaws.{Spreading, spreading-start, spreading-more, spreading-past, spreading-end}
 use Rattle.loops.proofs.cells.spread.Statement.{statement}
@@ -16,23 +16,32 @@ abbrev μ-loop : tie.MeasureT-loop
 loop-holds : tie.Need-loop-holds Inv-loop μ-loop
 loop-holds c = spreading-start _ _ _ _
 
+-- the cell that was read is of a class below 8 and has a name below 32
+class-small : (c : tie.After-class-held Inv-loop μ-loop) → c .class-held .result .0 < 8
+class-small c = rw (c .class-held .ensures) (c .before .before .before .before .before .before .pre .1 .class-small (c .before .before .before .loop .i - 1))
+
+name-small : (c : tie.After-name-held Inv-loop μ-loop) → c .name-held .result .0 < 32
+name-small c = rw (c .name-held .ensures) (c .before .before .before .before .before .before .before .before .pre .1 .name-small (c .before .before .before .before .before .loop .i - 1))
+
 mul-with-name : tie.Need-mul-with-name Inv-loop μ-loop
-mul-with-name c = omega (arith, c .before .before .before .before .before .pre .1 .class-small (c .before .before .loop .i - 1))
+mul-with-name c = omega (arith, class-small (c .before))
 
 array-read-with-name : tie.Need-array-read-with-name Inv-loop μ-loop
-array-read-with-name c = c .before .before .before .before .before .pre .1 .class-small (c .before .before .loop .i - 1)
+array-read-with-name c = class-small (c .before)
 
 with-name-requires : tie.Need-with-name-requires Inv-loop μ-loop
-with-name-requires c κs = c .before .before .before .before .before .pre .1 .name-small (c .before .before .loop .i - 1)
+with-name-requires c κs = name-small c
 
 mul-sets : tie.Need-mul-sets Inv-loop μ-loop
-mul-sets c = omega (arith, c .before .before .before .before .before .before .pre .1 .class-small (c .before .before .before .loop .i - 1))
+mul-sets c = omega (arith, class-small (c .before .before .before))
 
 array-write-sets : tie.Need-array-write-sets Inv-loop μ-loop
-array-write-sets c = c .before .before .before .before .before .before .pre .1 .class-small (c .before .before .before .loop .i - 1)
+array-write-sets c = class-small (c .before .before .before)
 
 loop-again : tie.Need-loop-again Inv-loop μ-loop
-loop-again c = let b = c .before .before in spreading-more _ _ _ _ _ _ (b .before .loop .inv) (b .loop-test .taken) _ (c .before .if1 .taken) (c .before .before .before .before .before .before .pre .1 .class-small (c .before .before .before .loop .i - 1)) (c .with-name .ensures) (c .with-name .ok)
+loop-again c =
+    let b = c .before .before .before .before in
+    spreading-more _ _ _ _ _ _ (b .before .before .loop .inv) (b .before .loop-test .taken) _ (b .if1 .taken) _ _ (c .before .before .before .class-held .ensures) (c .before .name-held .ensures) (class-small (c .before .before .before)) (c .with-name .ensures) (c .with-name .ok)
 
 loop-again-2 : tie.Need-loop-again-2 Inv-loop μ-loop
 loop-again-2 c = let b = c .before in spreading-past _ _ _ _ _ _ (b .before .loop .inv) (b .loop-test .taken) (c .if1 .left)
@@ -42,4 +51,4 @@ returns c = spreading-end _ _ _ _ _ _ (c .before .loop .inv) (c .loop-test .left
 
 pub spread-spec : {M : Type 1} → statement M
 spread-spec =
-    tie.close (tie.spec Inv-loop μ-loop loop-holds (λ c. search needs) (λ c. search needs) (λ c. search needs) (λ c. search needs) (λ c. search needs) mul-with-name array-read-with-name (λ c. search needs) with-name-requires mul-sets array-write-sets (λ c. search needs) loop-again (λ c. search needs) loop-again-2 returns)
+    tie.close (tie.spec Inv-loop μ-loop loop-holds (λ c. search needs) (λ c. search needs) (λ c. search needs) (λ c κs. search needs) (λ c. search needs) mul-with-name array-read-with-name (λ c κs. search needs) with-name-requires mul-sets array-write-sets (λ c. search needs) loop-again (λ c. search needs) loop-again-2 returns)

@@ -7,7 +7,7 @@ use Rattle.node.proofs.phases.when_phase.Statement.{statement}
 use Rattle.node.proofs.phases.when_phase.Tie as tie
 
 abbrev Inv-loop : tie.InvT-loop
-Inv-loop sheet p sets most at₀ moves₀ at moves = Walked sheet sets at₀ most at moves
+Inv-loop sheet p sets most at₀ moves₀ at moves = Walked sheet sets (at₀ .0) most (at .0) moves
 
 abbrev μ-loop : tie.MeasureT-loop
 μ-loop sheet p sets most at₀ moves₀ at moves = most - moves

@@ -19,6 +19,7 @@ use Rattle.node.proofs.values.operator_holds.Reads as operator-holds
 use Rattle.node.proofs.values.operator_holds.Kinds as operator-holds-kinds
 use Rattle.node.proofs.values.+guard_holds+operator_holds.Lts-operator_holds as operator-holds-lts
 use Rattle.node.proofs.values.atom_holds.Reads as atom-holds-reads
+use Rattle.bodies.proofs.kinds.pattern_at.Reads as pattern-at-reads
 use Rattle.bodies.proofs.words.byte_at.Reads as byte-at-reads
 use Rattle.bodies.proofs.words.record_at.Reads as record-at-reads
 use Rattle.bodies.proofs.words.u32_at.Reads as u32-at-reads
@@ -47,7 +48,7 @@ module _ (t : ℕ) where
   operator-holds-below = and 1 operator-holds-kinds.ps (falls 1 operator-holds-kinds.ps _<_ μ-operator-holds t) operator-holds.Pre
 
   abbrev guard-holds-uses : guard-holds-lts.Claims
-  guard-holds-uses = (record-at-reads.Asked, record-at-reads.Learnt, byte-at-reads.Asked, byte-at-reads.Learnt, u32-at-reads.Asked, u32-at-reads.Learnt, atom-holds-reads.Asked, atom-holds-reads.Learnt, operator-holds-below, operator-holds.Post)
+  guard-holds-uses = (record-at-reads.Asked, record-at-reads.Learnt, byte-at-reads.Asked, byte-at-reads.Learnt, pattern-at-reads.Asked, pattern-at-reads.Learnt, u32-at-reads.Asked, u32-at-reads.Learnt, atom-holds-reads.Asked, atom-holds-reads.Learnt, operator-holds-below, operator-holds.Post)
 
   -- the record's kind
   kind-is : (c : guard-holds-lts.After-byte-at guard-holds-uses guard-holds-at guard-holds.Post) → let a = c .before .before .before .before .args in c .byte-at .result ≡ byte (record-at (a .g .now) (a .from)) 0
@@ -63,7 +64,7 @@ module _ (t : ℕ) where
   guard-holds-returns-2 c =
       let b = c .before .before .before .before in
       sym (value-atom _ _ _ _ _ (omega arith) (kind-is b) (omega arith) _ (b .before .record-at .ensures)
-      _ _ (c .before .before .byte-at2 .ensures .0) (c .before .u32-at .ensures) _ (c .atom-holds .ensures))
+      _ _ (c .before .before .pattern-at .ensures) (c .before .u32-at .ensures) _ (c .atom-holds .ensures))
 
   guard-holds-returns-4 : guard-holds-lts.Need-returns-4 guard-holds-uses guard-holds-at guard-holds.Post
   guard-holds-returns-4 c = sym (value-unknown _ _ _ _ _ (omega arith) (kind-is (c .before .before)) (omega arith))
