@@ -15,14 +15,13 @@ use Rattle.model.specs.declared.Refusal.the-variants.{SheetLength, Contents, Em
 use Rattle.model.proofs.Words.{passed, not-passed}
 use Rattle.sheet.specs.Contents.{bodies, body}
 use Rattle.bodies.specs.Clauses.{in-fours}
-use Rattle.sheet.specs.Rules.{refusal}
 use Rattle.sheet.specs.Reading.{class-of}
 use Rattle.sheet.specs.ChildList.{children-of, list-right}
 use Rattle.sheet.specs.Judgement.{judged-numbers, judgement, Stands}
 use Rattle.sheet.specs.declared.judging.Places.{Places}
 use Rattle.sheet.specs.declared.judging.Judged.{Judged}
 use Rattle.sheet.specs.declared.judging.Judged.the-variants.{Accepted as AcceptedAt, Refused}
-use Rattle.sheet.proofs.JudgeLaws.{told-accepted, told-refused}
+use Rattle.sheet.proofs.VerdictLaws.{told-accepted, told-refused}
 use Rattle.sheet.proofs.Reading.{own-states-in}
 use Rattle.sheet.proofs.ReaderLaws.{classes-few}
 use Rattle.node.specs.Lists.{pairs-right}

@@ -17,7 +17,7 @@ use Rattle.sheet.specs.Reading.{class-of}
 use Rattle.sheet.specs.ChildList.{children-of, list-right}
 use Rattle.loops.specs.Configurations.{name-count}
 use Rattle.loops.specs.LoopAnswer.{Loops, loop-answer}
-use Rattle.bargewicker.specs.Questions.{Reply, refuse, give, commanded, looped, judged, placed, reply, reply-command, reply-loop, present-right, bytes-of-handling, bytes-of-loops, accepted}
+use Rattle.bargewicker.specs.Questions.{Reply, refuse, give, commanded, looped, judged, placed, reply-command, reply-loop, present-right, bytes-of-handling, bytes-of-loops}
 use Rattle.bargewicker.specs.Placing.{placed-refusal}
 
 -- a sheet that is refused gets its number, whatever is asked; one that is accepted is asked

@@ -6,7 +6,6 @@ use mathlib.Core.Path.{_≡_, sym, _∙_, ap, subst}
 use mathlib.Core.Bool.{Bool, true, false, not}
 use mathlib.Core.List.{List, [], _∷_}
 use lib.ListN.{length}
-use Rattle.model.specs.Words.{has}
 use Rattle.model.specs.Tree.{Child}
 use Rattle.model.specs.Crews.{child-classes}
 use Rattle.model.specs.declared.OwnState.{OwnState}
@@ -17,7 +16,7 @@ use Rattle.sheet.specs.Reading.{class-of}
 use Rattle.sheet.specs.ChildList.{pairs, written}
 use Rattle.sheet.specs.Judgement.{Stands}
 use Rattle.sheet.specs.declared.judging.Places.{Places}
-use Rattle.sheet.proofs.Contents.{classes-length, class-count-most}
+use Rattle.sheet.proofs.Contents.{counted}
 use Rattle.sheet.proofs.Reading.{child-classes-in}
 use Rattle.sheet.proofs.ReaderLaws.{stands-right}
 use Rattle.loops.specs.Configurations.{chosen, name-count, list-of}
@@ -41,7 +40,7 @@ module _ (b : List ℕ) (p : Places) (s : Stands b p) (present : ℕ) where
   -- the body of child classes is short
   pub classes-32 : (l : List ℕ) → l ≡ body b 0 → length l ≤ 32
   unfolding bodies
-  classes-32 l e = rw e (omega (arith, classes-length b (stands-right b p s), class-count-most b (stands-right b p s)))
+  classes-32 l e = rw e (omega (arith, counted b (stands-right b p s) .classes-whole, counted b (stands-right b p s) .classes-most))
 
   -- the code's test of the present bits is the paper's
   module _ (n : ℕ) (e : n ≡ in-fours (body b 0)) (r : Bool) (f : r ≡ bits-below present n) where

@@ -16,7 +16,7 @@ use Rattle.model.specs.Tree.{Child, Part, State}
 use Rattle.model.specs.Node.{state-of}
 use Rattle.model.specs.Commands as Tree
 use Rattle.model.specs.declared.OwnState.{OwnState}
-use Rattle.model.proofs.Words.{clash, and-right, lt-or-le, each-elim, least-some, least-none}
+use Rattle.model.proofs.Words.{clash, and-right, lt-or-le, each-elim, least-some, least-none, least-told}
 use Rattle.bodies.specs.Bytes.{records}
 use Rattle.sheet.specs.Contents.{body, bodies}
 use Rattle.bodies.specs.Clauses.{in-fours, in-eights, count-at, count-sum, first-action, action-count, action-command, statement-count, first-statement, statements-of, body-of}
@@ -25,7 +25,7 @@ use Rattle.bodies.specs.BodyRules.{counts-right, statements-right}
 use Rattle.sheet.specs.Reading.{action-in, state-in, class-of}
 use Rattle.bodies.proofs.Bytes.{length-records}
 use Rattle.bodies.proofs.CheckLaws.{sum-next}
-use Rattle.sheet.proofs.Contents.{states-length, all-actions-most, all-statements-most}
+use Rattle.sheet.proofs.Contents.{counted}
 use Rattle.sheet.proofs.JudgeLaws.{sum-right}
 use Rattle.sheet.proofs.Reading.{state-of-in, state-of-past}
 use Rattle.sheet.proofs.Rules.{Right}
@@ -34,7 +34,7 @@ use Rattle.commands.specs.Commands.{moved-as, Does, RunsPart, first-acti
 use Rattle.commands.specs.declared.Moved.{Moved}
 use Rattle.commands.specs.declared.Ran.{Ran}
 use Rattle.commands.specs.declared.Handling.the-variants.{Handled, Short}
-use Rattle.commands.proofs.ClauseLaws.{least-told, clause-none, clause-found}
+use Rattle.commands.proofs.ClauseLaws.{clause-none, clause-found}
 
 -- a record past the last counts nothing
 past-count : (s : List ℕ) (offset q : ℕ) → length s ≡ in-fours s * 4 → in-fours s ≤ q → count-at s offset q ≡ 0
@@ -70,7 +70,7 @@ module _ (b : List ℕ) (right : Right b) (q m : ℕ) where
       go (inl l) = ap (λ (x : State). x .actions) (state-of-in (bodies b) q l)
       go (inr l) =
           ap (λ (x : State). x .actions) (state-of-past (bodies b) q l)
-          ∙ ap (λ (n : ℕ). listed (first-action (body b 1) q) n (action-in (bodies b))) (sym (past-count (body b 1) 2 q (states-length b (right .contents)) l))
+          ∙ ap (λ (n : ℕ). listed (first-action (body b 1) q) n (action-in (bodies b))) (sym (past-count (body b 1) 2 q (counted b (right .contents) .states-whole) l))
 
   pub ignored-told : (ks : List Child) (n hit : ℕ) → n ≡ action-count (body b 1) q → hit ≡ first-action-for b q m → hit ≡ n → Tree.command (class-of b) ks q m ≡ Tree.ignored q
   unfolding Tree.command first-action-for bodies action-in
@@ -89,7 +89,7 @@ module _ (b : List ℕ) (right : Right b) (q m : ℕ) where
     where
       go : (q < in-fours (body b 1)) ⊎ (in-fours (body b 1) ≤ q) → q < in-fours (body b 1)
       go (inl h) = h
-      go (inr h) = absurd (let z = past-count (body b 1) 2 q (states-length b (right .contents)) h in omega arith)
+      go (inr h) = absurd (let z = past-count (body b 1) 2 q (counted b (right .contents) .states-whole) h in omega arith)
 
   action-inside : (hit : ℕ) → hit < action-count (body b 1) q → first-action (body b 1) q + hit < in-fours (body b 4)
   unfolding bodies counts-right
@@ -117,9 +117,9 @@ module _ (b : List ℕ) (right : Right b) (q m : ℕ) where
       let body-at = body-of (in-fours (body b 0)) (in-fours (body b 1)) (body b 3) (body b 4) (body b 5) in
       let (p, r) = is-there (body-at a) (each-elim (in-fours (body b 4)) (λ a. is-some (body-at a)) (right .bodies .statements) a inside) in
       record {
-        few = omega (arith, all-actions-most b (right .contents));
+        few = omega (arith, counted b (right .contents) .actions-most);
         ends = sum-inside (body b 4) 2 a (in-fours (body b 4)) (in-eights (body b 5)) inside (sum-right (body b 1) (body b 4) (in-eights (body b 5)) (right .bodies .actions));
-        short = all-statements-most b (right .contents);
+        short = counted b (right .contents) .statements-most;
         part = p;
         reads = r;
         handled = part-told hit a p l t h e r;

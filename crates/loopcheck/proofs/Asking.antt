@@ -8,7 +8,7 @@ use mathlib.Core.List.{List, [], _∷_}
 use lib.Pow.{pow-mono, pow-pos}
 use Rattle.model.specs.Refusals.{number-of}
 use Rattle.model.specs.declared.Refusal.{Refusal}
-use Rattle.model.proofs.Words.{length-listed}
+use Rattle.model.proofs.Lists.{length-listed}
 use Rattle.sheet.specs.Contents.{bodies, body}
 use Rattle.bodies.specs.Clauses.{in-fours, name-set}
 use Rattle.sheet.specs.Reading.{class-in, class-of}

@@ -13,7 +13,7 @@ use Rattle.model.specs.Tree.{Child}
 use Rattle.model.specs.Refusals.{number-of}
 use Rattle.model.specs.declared.Refusal.{Refusal}
 use Rattle.model.specs.declared.OwnState.{OwnState}
-use Rattle.model.proofs.Words.{length-listed}
+use Rattle.model.proofs.Lists.{length-listed}
 use Rattle.sheet.specs.Reading.{class-of}
 use Rattle.sheet.specs.ChildList.{children-of, pairs, written}
 use Rattle.loops.specs.Configurations.{cells, list-of}

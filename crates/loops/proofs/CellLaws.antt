@@ -1,27 +1,23 @@
--- Laws about the cells: reading them, spreading a configuration into sets, and when a configuration is not skipped.
+-- Laws about the cells: reading them.
 -- Assumes nothing.
 use Prim.Native.Nat.{ℕ, zero, suc, _+_, _-_, _/_, _%_, _^_, _<_, _≤_}
 use native.Mathlib.Omega.{arith}
 use native.Mathlib.Numerals.{add-one}
-use mathlib.Core.Path.{_≡_, refl, sym, ap, _∙_, subst}
-use mathlib.Core.Bool.{Bool, true, false, _&&_, _||_, not}
+use mathlib.Core.Path.{_≡_, refl, sym, ap, _∙_}
+use mathlib.Core.Bool.{Bool, true, false, _&&_}
 use mathlib.Core.List.{List, [], _∷_, _++_, append-nil}
 use lib.Dec.{eqb}
-use lib.Bits.{bitAnd, bitOr}
-use lib.ListN.{length, getD, set, drop, replicate, getD-replicate, length-append, length-set, drop-of-length-le}
-use lib.Pow.{shr-shr}
-use lib.Seq.{drop-cons, getD-set-same, getD-set-other}
-use borrow.Author.Tests.{lt-ltb, le-ltb, ne-eqb}
-use Rattle.model.specs.Words.{has, each, kept, keep, listed, some-in}
+use lib.Bits.{bitAnd}
+use lib.ListN.{length, getD, set, replicate, length-append, length-set}
+use lib.Seq.{getD-set-same, getD-set-other}
+use borrow.Author.Tests.{lt-ltb, le-ltb}
+use Rattle.model.specs.Words.{has, kept, keep, listed}
 use Rattle.model.specs.Tree.{Child}
-use Rattle.model.specs.Crews.{occupied}
-use Rattle.model.proofs.Words.{length-listed, getD-listed, each-broken, each-so-far, each-all, true-not-false}
+use Rattle.model.proofs.Lists.{listed-more, keep-append, listed-same}
 use Rattle.bodies.specs.Clauses.{in-fours, name-set}
-use Rattle.bodies.proofs.Bits.{has-none}
-use Rattle.node.specs.Sets.{Shows}
-use Rattle.node.proofs.CrewLaws.{shifted, shows-more}
-use Rattle.loops.specs.Configurations.{cell, chosen}
-use Rattle.loops.specs.Cells.{cell-present, held, present-among, CellsAre, Spreads, counts-on}
+use Rattle.node.proofs.CrewLaws.{shifted}
+use Rattle.loops.specs.Configurations.{cell}
+use Rattle.loops.specs.Cells.{cell-present, held, present-among, CellsAre}
 
 -- a class that the sheet has not
 pub cell-past : (classes : List ℕ) (present i n : ℕ) → in-fours classes ≤ i → cell-present classes present i n ≡ false
@@ -34,37 +30,15 @@ pub cell-here : (classes : List ℕ) (present i n s : ℕ) (r : Bool) → i < in
 unfolding cell-present
 cell-here classes present i n s r l e f = rw (shifted present i, lt-ltb i (in-fours classes) l, f, e)
 
--- one entry more at the end
-pub listed-more {ℓ} : {A : Type ℓ} (i n : ℕ) (f : ℕ → A) → listed i (suc n) f ≡ listed i n f ++ (f (i + n) ∷ [])
-unfolding listed
-listed-more i zero f = ap (λ (j : ℕ). f j ∷ []) (let e : i ≡ i + 0 = omega arith in e)
-listed-more i (suc n) f =
-    ap (_∷_ (f i)) (listed-more (suc i) n f ∙ ap (λ (j : ℕ). listed (suc i) n f ++ (f j ∷ [])) (let e : suc i + n ≡ i + suc n = omega arith in e))
-
-pub keep-append {ℓ} : {A : Type ℓ} (f : A → Bool) (xs ys : List A) → keep f (xs ++ ys) ≡ keep f xs ++ keep f ys
-unfolding keep
-keep-append f [] ys = refl
-keep-append f (x ∷ xs) ys = rw (keep-append f xs ys) (go (f x))
-  where
-    go : (b : Bool) → kept b x (keep f xs ++ keep f ys) ≡ kept b x (keep f xs) ++ keep f ys
-    go true = refl
-    go false = refl
-
--- the same entries make the same list
-pub listed-same {ℓ} : {A : Type ℓ} (i n : ℕ) (f g : ℕ → A) → ((j : ℕ) → j < i + n → f j ≡ g j) → listed i n f ≡ listed i n g
-unfolding listed
-listed-same i zero f g h = refl
-listed-same i (suc n) f g h = rw (h i (omega arith), listed-same (suc i) n f g (λ j l. h j (omega arith)))
-
 -- a store of a small number leaves small numbers
-set-small : (l : List ℕ) (i v b : ℕ) → v < b → ((k : ℕ) → getD l k 0 < b) → (k : ℕ) → getD (set l i v) k 0 < b
+pub set-small : (l : List ℕ) (i v b : ℕ) → v < b → ((k : ℕ) → getD l k 0 < b) → (k : ℕ) → getD (set l i v) k 0 < b
 set-small [] i v b p h k = h k
 set-small (x ∷ l) zero v b p h zero = p
 set-small (x ∷ l) zero v b p h (suc k) = h (suc k)
 set-small (x ∷ l) (suc i) v b p h zero = h zero
 set-small (x ∷ l) (suc i) v b p h (suc k) = set-small l i v b p (λ k. h (suc k)) k
 
-zeros-small : (n b : ℕ) → 0 < b → (k : ℕ) → getD (replicate n 0) k 0 < b
+pub zeros-small : (n b : ℕ) → 0 < b → (k : ℕ) → getD (replicate n 0) k 0 < b
 zeros-small zero b p k = p
 zeros-small (suc n) b p zero = p
 zeros-small (suc n) b p (suc k) = zeros-small n b p k
@@ -189,94 +163,3 @@ module _ (classes : List ℕ) (present : ℕ) where
         all = λ u. r .all u ∙ ap (present-among classes present) e;
         small = record { class-small = r .classes-small; name-small = r .names-small };
       }
-
--- what is chosen of a list from entry i on
-chosen-from : (xs : List Child) (k i : ℕ) (d : Child) → i < length xs
-    → chosen (drop i xs) (k / 2 ^ i) ≡ kept (has k i) (getD xs i d) (chosen (drop (suc i) xs) (k / 2 ^ suc i))
-unfolding chosen has
-chosen-from xs k i d l = rw (drop-cons xs i d l, shr-shr k i 1) (let e : i + 1 ≡ suc i = add-one i in rw e)
-
--- from the last cell down: the sets show what is chosen of the cells from i on
-pub record Spreading (cs ns : List ℕ) (n k : ℕ) (sets : List ℕ) (i : ℕ) : Type 0 where
-  pub inside : i ≤ n
-  pub eight : length sets ≡ 8
-  pub narrow : (j : ℕ) → getD sets j 0 < 2 ^ 32
-  pub shown : Shows sets (chosen (drop i (held cs ns n)) (k / 2 ^ i))
-
-module _ (cs ns : List ℕ) (n k : ℕ) where
-  length-held : length (held cs ns n) ≡ n
-  unfolding held
-  length-held = length-listed 0 n (λ i. record { class = getD cs i 0; name = getD ns i 0 })
-
-  at-held : (i : ℕ) (d : Child) → i < n → getD (held cs ns n) i d ≡ record { class = getD cs i 0; name = getD ns i 0 }
-  unfolding held
-  at-held i d l = getD-listed 0 n (λ i. record { class = getD cs i 0; name = getD ns i 0 }) d i i l (omega arith)
-
-  pub spreading-start : Spreading cs ns n k (replicate 8 0) n
-  unfolding occupied some-in chosen
-  spreading-start =
-      record {
-        inside = omega arith;
-        eight = refl;
-        narrow = zeros-small 8 (2 ^ 32) (omega arith);
-        shown = λ j m p q. rw (drop-of-length-le (held cs ns n) (let z : length (held cs ns n) ≤ n = (let x = length-held in omega arith) in z), getD-replicate {A = ℕ} 8 j 0 0 p) (has-none m);
-      }
-
-  module _ (sets : List ℕ) (i : ℕ) (s : Spreading cs ns n k sets i) (turn : 0 < i) where
-    step : chosen (drop (i - 1) (held cs ns n)) (k / 2 ^ (i - 1)) ≡ kept (has k (i - 1)) (record { class = getD cs (i - 1) 0; name = getD ns (i - 1) 0 }) (chosen (drop i (held cs ns n)) (k / 2 ^ i))
-    step =
-        let z : suc (i - 1) ≡ i = omega arith in
-        let d : Child = record { class = 0; name = 0 } in
-        rw (chosen-from (held cs ns n) k (i - 1) d (let x = length-held in let y = s .inside in omega arith), z, at-held (i - 1) d (let y = s .inside in omega arith))
-
-    pub spreading-more : (r : ℕ) → bitAnd (k / 2 ^ (i - 1)) 1 ≡ 1 → (x y : ℕ) → x ≡ getD cs (i - 1) 0 → y ≡ getD ns (i - 1) 0 → x < 8 → r ≡ bitOr (getD sets x 0) (2 ^ y) → r < 2 ^ 32
-        → Spreading cs ns n k (set sets x r) (i - 1)
-    spreading-more r t x y ex ey l e u =
-        let h : has k (i - 1) ≡ true = sym (shifted k (i - 1)) ∙ ap (λ (x : ℕ). eqb x 1) t in
-        record {
-          inside = (let y = s .inside in omega arith);
-          eight = length-set sets x r ∙ s .eight;
-          narrow = set-small sets x r (2 ^ 32) u (s .narrow);
-          shown = rw (step, sym ex, sym ey, h, e) (shows-more sets (chosen (drop i (held cs ns n)) (k / 2 ^ i)) x y (let z = s .eight in omega arith) (s .shown));
-        }
-
-    pub spreading-past : (bitAnd (k / 2 ^ (i - 1)) 1 ≡ 1 → ⊥) → Spreading cs ns n k sets (i - 1)
-    spreading-past t =
-        let h : has k (i - 1) ≡ false = sym (shifted k (i - 1)) ∙ ne-eqb (bitAnd (k / 2 ^ (i - 1)) 1) 1 t in
-        record { inside = (let y = s .inside in omega arith); eight = s .eight; narrow = s .narrow; shown = rw (step, h) (s .shown) }
-
-  pub spreading-end : (sets : List ℕ) (i : ℕ) → Spreading cs ns n k sets i → i ≤ 0 → Spreads sets (chosen (held cs ns n) k)
-  spreading-end sets i s l =
-      let e : i ≡ 0 = omega arith in
-      let z : k / 2 ^ 0 ≡ k = (let y : k / 1 ≡ k = omega arith in y) in
-      record {
-        eight = s .eight;
-        narrow = s .narrow;
-        shows = subst (λ (x : ℕ). Shows sets (chosen (held cs ns n) x)) z (subst (λ (x : ℕ). Shows sets (chosen (drop x (held cs ns n)) (k / 2 ^ x))) e (s .shown));
-      }
-
--- a class counts if it is not present, or its set is not empty
-module _ (present : ℕ) (sets : List ℕ) where
-  abbrev pub counted : ℕ → Bool
-  counted i = not (has present i) || not (eqb (getD sets i 0) 0)
-
-  pub empty-one : (i : ℕ) → i < 8 → (eqb (bitAnd (present / 2 ^ i) 1) 1 && eqb (getD sets i 0) 0) ≡ true → counts-on present sets ≡ false
-  unfolding counts-on
-  empty-one i l t = each-broken 8 i counted l (go (has present i) (eqb (getD sets i 0) 0) (rw (shifted present i) at t))
-    where
-      go : (a b : Bool) → (a && b) ≡ true → (not a || not b) ≡ false
-      go true true h = refl
-      go true false h = absurd (true-not-false h refl)
-      go false b h = absurd (true-not-false h refl)
-
-  pub counted-one : (i : ℕ) → each i counted ≡ true → (eqb (bitAnd (present / 2 ^ i) 1) 1 && eqb (getD sets i 0) 0) ≡ false → each (i + 1) counted ≡ true
-  counted-one i h t = each-so-far i counted h (go (has present i) (eqb (getD sets i 0) 0) (rw (shifted present i) at t))
-    where
-      go : (a b : Bool) → (a && b) ≡ false → (not a || not b) ≡ true
-      go true true h = sym h
-      go true false h = refl
-      go false b h = refl
-
-  pub counted-all : (i : ℕ) → i ≤ 8 → 8 ≤ i → each i counted ≡ true → counts-on present sets ≡ true
-  unfolding counts-on
-  counted-all i l m h = each-all 8 i counted l m h

@@ -13,7 +13,8 @@ use borrow.Author.Tests.{lt-ltb, le-ltb, eqb-true, eqb-false, eq-eqb, ne-eqb}
 use Rattle.model.specs.Words.{has, each, keep, listed}
 use Rattle.model.specs.Tree.{Child, Class}
 use Rattle.model.specs.Crews.{child-classes, in-class, belongs, occurs, all-occur, occupied}
-use Rattle.model.proofs.Words.{both-ways, lt-or-le, true-not-false, each-intro, each-elim, some-in-intro, some-in-elim}
+use Rattle.model.proofs.Words.{both-ways, lt-or-le, true-not-false, each-intro, each-elim}
+use Rattle.model.proofs.Lists.{some-in-intro, some-in-elim, keep-append}
 use Rattle.model.proofs.Occupancy.{mem-occupied, occupied-mem}
 use Rattle.sheet.specs.Contents.{body, bodies}
 use Rattle.bodies.specs.Clauses.{in-fours, name-set}
@@ -21,13 +22,13 @@ use Rattle.sheet.specs.Reading.{class-of}
 use Rattle.sheet.specs.Judgement.{Stands}
 use Rattle.sheet.specs.declared.judging.Places.{Places}
 use Rattle.bodies.proofs.Bits.{has-none, some-bit}
-use Rattle.sheet.proofs.Contents.{class-count-most}
+use Rattle.sheet.proofs.Contents.{counted}
 use Rattle.sheet.proofs.Reading.{child-classes-in, name-set-in}
 use Rattle.sheet.proofs.ReaderLaws.{stands-right}
 use Rattle.node.specs.Sets.{Small}
 use Rattle.loops.specs.Configurations.{cell, cells}
 use Rattle.loops.specs.Cells.{cell-present, present-among, present-cells, Spreads, counts-on}
-use Rattle.loops.proofs.CellLaws.{cell-past, keep-append}
+use Rattle.loops.proofs.CellLaws.{cell-past}
 
 listed-split {ℓ} : {A : Type ℓ} (i n m : ℕ) (f : ℕ → A) → listed i (n + m) f ≡ listed i n f ++ listed (i + n) m f
 unfolding listed
@@ -55,7 +56,7 @@ module _ (b : List ℕ) (p : Places) (stands : Stands b p) (present : ℕ) where
 
   pub classes-most : child-classes (class-of b) ≤ 8
   unfolding bodies
-  classes-most = let x : in-fours (body b 0) ≤ 8 = class-count-most b (stands-right b p stands) in let y = classes-are in omega arith
+  classes-most = let x : in-fours (body b 0) ≤ 8 = counted b (stands-right b p stands) .classes-most in let y = classes-are in omega arith
 
   -- a cell is present for the code exactly if it belongs
   present-here : (i n : ℕ) → i < in-fours (body b 0) → cell-present (body b 0) present i n ≡ (has present i && has (name-set (body b 0) i) n)

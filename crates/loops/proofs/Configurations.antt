@@ -13,7 +13,8 @@ use Rattle.model.specs.Words.{kept, keep, every, listed, has}
 use Rattle.model.specs.Tree.{Child, Class}
 use Rattle.model.specs.Crews.{child-classes, in-class, belongs, occurs, all-occur, fits, occupied, Same}
 use Rattle.model.specs.Sound.{Sound}
-use Rattle.model.proofs.Words.{and-left, and-right, and-both, each-intro, listed-mem, every-elim, every-intro, some-in-intro, keep-mem, mem-keep}
+use Rattle.model.proofs.Words.{and-left, and-right, and-both, each-intro}
+use Rattle.model.proofs.Lists.{listed-mem, every-elim, every-intro, some-in-intro, keep-mem, mem-keep}
 use Rattle.model.proofs.Occupancy.{mem-occupied, occupied-mem, covered-same, all-occur-same}
 use Rattle.loops.specs.Configurations.{cell, cells, name-count, chosen, list-of}
 use Rattle.loops.specs.LoopAnswer.{counts}

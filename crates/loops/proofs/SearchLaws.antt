@@ -18,7 +18,7 @@ use Rattle.model.specs.Tree.{Child}
 use Rattle.model.specs.Moves.{returns-soon}
 use Rattle.model.specs.Node.{own-states, next}
 use Rattle.model.specs.Crews.{child-classes}
-use Rattle.model.proofs.Words.{length-listed}
+use Rattle.model.proofs.Lists.{length-listed, listed-more}
 use Rattle.sheet.specs.Contents.{body}
 use Rattle.bodies.specs.Clauses.{in-fours}
 use Rattle.sheet.specs.ChildList.{pairs, written}
@@ -40,9 +40,9 @@ use Rattle.loops.specs.declared.chase.Found.{Found}
 use Rattle.loops.specs.declared.chase.Found.the-variants.{Loop, Longest}
 use Rattle.loops.specs.declared.search.Answer.the-variants.{Loop as LoopAt, Free}
 use Rattle.loops.proofs.Configurations.{chosen-mem, belongs-low, mem-cells}
-use Rattle.loops.proofs.CellLaws.{listed-more}
 use Rattle.loops.proofs.CellsAgree.{classes-most, cells-agree, counts-agree}
-use Rattle.loops.proofs.ChaseLaws.{phase-moves, states-are, Passing, passing-found}
+use Rattle.loops.proofs.TableLaws.{phase-moves, states-are}
+use Rattle.loops.proofs.ChaseLaws.{Passing, passing-found}
 use Rattle.model.specs.declared.OwnState.{OwnState}
 
 -- the code that has read the cells of an accepted sheet holds those of its class

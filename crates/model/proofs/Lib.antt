@@ -1,5 +1,6 @@
 pub mod Computing
 pub mod Words
+pub mod Lists
 pub mod Moves
 pub mod Occupancy
 pub mod Phase

@@ -11,7 +11,8 @@ use Rattle.model.specs.Tree.{Child, Pattern, Kind, any-in, any-not-in, a
 use Rattle.model.specs.Guards.{concerns, any-of, all-of, named-in, atom-holds, holds}
 use Rattle.model.specs.Node.{own-states, state-of, first-true, probe, turn-for, Turn, turn, moved, next, settled, by-turn, walk, phase}
 use Rattle.model.specs.Crews.{child-classes, belongs, occurs, all-occur, fits, occupied, Same}
-use Rattle.model.proofs.Words.{both-ways, and-left, and-right, and-both, every-elim, every-intro, some-in-elim, some-in-intro}
+use Rattle.model.proofs.Words.{both-ways, and-left, and-right, and-both}
+use Rattle.model.proofs.Lists.{every-elim, every-intro, some-in-elim, some-in-intro}
 
 -- the name of a child of the list is occupied in its class
 pub mem-occupied : (ks : List Child) (k : Child) → List·Memᴰ k ks → occupied ks (k .class) (k .name) ≡ true

@@ -11,7 +11,8 @@ use borrow.Author.Tests.{eqb-true, eq-eqb}
 use Rattle.model.specs.Words.{has, each, every, some-in, some-below}
 use Rattle.model.specs.Tree.{Child, Pattern, everyone, of-class, Kind, any-in, any-not-in, all-in, all-not-in, Guard, atom, both, either, opposite}
 use Rattle.model.specs.Guards.{concerns, any-of, all-of, named-in, atom-holds, holds}
-use Rattle.model.proofs.Words.{true-not-false, both-ways, and-left, and-right, and-both, not-not-true, lt-or-le, each-intro, each-elim, some-below-intro, some-below-elim, every-elim, every-intro, some-in-elim, some-in-intro}
+use Rattle.model.proofs.Words.{true-not-false, both-ways, and-left, and-right, and-both, not-not-true, lt-or-le, each-intro, each-elim, some-below-intro, some-below-elim}
+use Rattle.model.proofs.Lists.{every-elim, every-intro, some-in-elim, some-in-intro}
 use Rattle.model.proofs.Occupancy.{mem-occupied, occupied-mem}
 use Rattle.sheet.specs.Contents.{Bodies}
 use Rattle.bodies.specs.GuardRecords.{Read, got, broken, by-read, guard-from}

@@ -12,13 +12,14 @@ use borrow.Author.Tests.{ltb-true, leb-true, lt-ltb, le-ltb, le-leb, lt-leb, eq-
 use Rattle.model.specs.Words.{has, every}
 use Rattle.model.specs.Tree.{Child}
 use Rattle.model.specs.Crews.{child-classes, in-class}
-use Rattle.model.proofs.Words.{and-left, and-right, and-both, not-not-true, true-not-false, lt-or-le, every-elim}
+use Rattle.model.proofs.Words.{and-left, and-right, and-both, not-not-true, true-not-false, lt-or-le}
+use Rattle.model.proofs.Lists.{every-elim}
 use Rattle.sheet.specs.Contents.{Bodies, body, bodies}
 use Rattle.bodies.specs.Clauses.{in-fours, name-set}
 use Rattle.sheet.specs.ChildList.{children-of, list-right}
 use Rattle.sheet.specs.Reading.{class-in, class-of}
 use Rattle.sheet.specs.Rules.{Accepted}
-use Rattle.sheet.proofs.Contents.{class-count-most}
+use Rattle.sheet.proofs.Contents.{counted}
 use Rattle.sheet.proofs.Rules.{accepted-right}
 use Rattle.sheet.proofs.Reading.{child-classes-in, name-set-in}
 use Rattle.node.specs.Sets.{Shows, Small}
@@ -138,7 +139,7 @@ module _ (b : List ℕ) (accepted : Accepted b) (l : List ℕ) (right : list-rig
       let inside = has (getD (c .children) (k .class) 0) (k .name) in
       let low : k .class < child-classes c = ltb-true (k .class) (child-classes c) (and-left (ltb (k .class) (child-classes c)) (named && inside) t) in
       record {
-        class-small = omega (arith, low, child-classes-in (bodies b), class-count-most b (accepted-right b accepted .contents));
+        class-small = omega (arith, low, child-classes-in (bodies b), counted b (accepted-right b accepted .contents) .classes-most);
         name-small = ltb-true (k .name) 32 (and-left named inside (and-right (ltb (k .class) (child-classes c)) (named && inside) t));
       }
 

@@ -6,14 +6,13 @@ use mathlib.Core.Path.{_≡_, refl, sym, _∙_, ap, subst}
 use mathlib.Core.Bool.{Bool, true, false}
 use mathlib.Core.List.{List}
 use mathlib.Core.Logic.{_⊎_, inl, inr}
-use mathlib.Core.Option.{Option, none, some}
 use lib.ListN.{length, getD, List·getD-eq-default}
-use Rattle.model.specs.Words.{maybe, least, listed}
+use Rattle.model.specs.Words.{listed}
 use Rattle.model.specs.Tree.{Child, everyone, any-in, atom, run, stay, When, Action, State, no-action}
 use Rattle.model.specs.Guards.{holds}
 use Rattle.model.specs.Node.{state-of, nothing, found, first-true, probe, command-of, turn-for, turn}
 use Rattle.model.specs.Sound.{ReferrerRight}
-use Rattle.model.proofs.Words.{true-not-false, lt-or-le, below-next, least-some, least-none}
+use Rattle.model.proofs.Words.{lt-or-le, below-next, least-some, least-none, least-found, least-not, least-told}
 use Rattle.model.proofs.Phase.{getD-mem, probe-found}
 use Rattle.bodies.specs.Bytes.{byte}
 use Rattle.sheet.specs.Contents.{body, bodies}
@@ -27,7 +26,7 @@ use Rattle.sheet.specs.declared.judging.Places.{Places}
 use Rattle.sheet.specs.declared.readers.Run.{Run}
 use Rattle.bodies.specs.declared.clauses.Referrer.the-variants.{MoveTo, Do, Stay}
 use Rattle.bodies.specs.declared.clauses.Referrer.{Referrer}
-use Rattle.sheet.proofs.Contents.{states-length}
+use Rattle.sheet.proofs.Contents.{counted}
 use Rattle.sheet.proofs.ReaderLaws.{stands-right}
 use Rattle.sheet.proofs.Rules.{accepted-right}
 use Rattle.sheet.proofs.Reading.{state-of-in, state-of-past, actions-in, action-of-in, mem-whens}
@@ -77,44 +76,21 @@ module _ (b sets : List ℕ) (first n : ℕ) where
   -- all were tried
   pub none-hit : (i : ℕ) → NoneBefore b sets first n i → i ≡ n → n ≡ first-hit b sets first n
   unfolding first-hit
-  none-hit i d e = go (least n test) refl
-    where
-      go : (o : Option ℕ) → least n test ≡ o → n ≡ maybe o (λ _. n) (λ i. i)
-      go none p = refl
-      go (some k) p =
-          let (l, t, f) = least-some n test k p in
-          absurd (true-not-false t (d .none-true k (omega arith)))
+  none-hit i d e = rw (least-not n test (λ k l. d .none-true k (omega arith)))
 
   -- the i-th is true
   pub hit-here : (i : ℕ) → NoneBefore b sets first n i → (i ≡ n → ⊥) → clause-true b sets (first + i) ≡ true → i ≡ first-hit b sets first n
   unfolding first-hit
-  hit-here i d m t = go (least n test) refl
-    where
-      go : (o : Option ℕ) → least n test ≡ o → i ≡ maybe o (λ _. n) (λ i. i)
-      go none p = absurd (let a = d .inside in true-not-false t (least-none n test p i (omega arith)))
-      go (some k) p = let (l, u, f) = least-some n test k p in at k u f (lt-or-le k i) (lt-or-le i k)
-        where
-          at : (k : ℕ) → test k ≡ true → ((j : ℕ) → j < k → test j ≡ false) → (k < i) ⊎ (i ≤ k) → (i < k) ⊎ (k ≤ i) → i ≡ k
-          at k u f (inl x) y = absurd (true-not-false u (d .none-true k x))
-          at k u f (inr x) (inl y) = absurd (true-not-false t (f i y))
-          at k u f (inr x) (inr y) = omega arith
+  hit-here i d m t = let a = d .inside in rw (least-found n test i (omega arith) t (d .none-true))
 
   -- what the search's answer says
   pub hit-none : (k : ℕ) → k ≡ first-hit b sets first n → k ≡ n → NoneBefore b sets first n n
   unfolding first-hit
-  hit-none k e z = go (least n test) refl e
-    where
-      go : (o : Option ℕ) → least n test ≡ o → k ≡ maybe o (λ _. n) (λ i. i) → NoneBefore b sets first n n
-      go none p e = record { inside = omega arith; none-true = least-none n test p }
-      go (some j) p e = absurd (let (l, t, f) = least-some n test j p in omega arith)
+  hit-none k e z = record { inside = omega arith; none-true = least-none n test (least-told n test k e .0 z) }
 
   pub hit-some : (k : ℕ) → k ≡ first-hit b sets first n → (k ≡ n → ⊥) → FirstTrue b sets first n k
   unfolding first-hit
-  hit-some k e z = go (least n test) refl e
-    where
-      go : (o : Option ℕ) → least n test ≡ o → k ≡ maybe o (λ _. n) (λ i. i) → FirstTrue b sets first n k
-      go none p e = absurd (z e)
-      go (some j) p e = let (l, t, f) = least-some n test k (p ∙ ap some (sym e)) in record { inside = l; true-here = t; none-true = f }
+  hit-some k e z = let (l, t, f) = least-some n test k (least-told n test k e .1 z) in record { inside = l; true-here = t; none-true = f }
 
 -- the first true clause of those that are listed from a on, numbered from i
 module _ (ks : List Child) (f : ℕ → When) where
@@ -145,7 +121,7 @@ module _ (b : List ℕ) (p : Places) (stands : Stands b p) (q : ℕ) where
   no-count : in-fours (body b 1) ≤ q → when-count (body b 1) q ≡ 0
   unfolding bodies
   no-count l =
-      let whole : length (body b 1) ≡ in-fours (body b 1) * 4 = states-length b (stands-right b p stands) in
+      let whole : length (body b 1) ≡ in-fours (body b 1) * 4 = counted b (stands-right b p stands) .states-whole in
       let x : byte (body b 1) (q * 4 + 0) ≡ 0 = List·getD-eq-default (body b 1) 0 (let z : length (body b 1) ≤ q * 4 + 0 = omega arith in z) in
       let y : byte (body b 1) (q * 4 + 0 + 1) ≡ 0 = List·getD-eq-default (body b 1) 0 (let z : length (body b 1) ≤ q * 4 + 0 + 1 = omega arith in z) in
       rw (x, y)

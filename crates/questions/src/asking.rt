@@ -43,97 +43,28 @@ fn verb_of(verb: &[u8], spaces: usize) -> Verb {
     Verb::Other
 }
 
-// judge SHEET
-fn ask_judge(fields: &[u8], sheet: &mut [u8], out: &mut [u8]) -> usize {
-    let s = decode(fields, sheet);
-    let n = s.length;
-    if !s.right {
-        return bad_line(out);
-    }
-    judge_line(bargewicker::judge(&sheet[..n]), out)
-}
-
-// probe SHEET LIST STATE, or phase SHEET LIST STATE
-fn ask_state(
-    phase: bool,
-    fields: &[u8],
-    sheet: &mut [u8],
-    list: &mut [u8],
-    out: &mut [u8],
-) -> usize {
-    let rest = other_fields(fields);
-    let asked = read_number(other_fields(rest));
-    let Number::Is(state) = asked else {
-        return bad_line(out);
-    };
-    let s = decode(first_field(fields), sheet);
-    let l = decode(first_field(rest), list);
-    let n = s.length;
-    let m = l.length;
-    if !(s.right & l.right) {
-        return bad_line(out);
-    }
-    if phase {
-        return phase_line(bargewicker::when_phase(&sheet[..n], &list[..m], state), out);
-    }
-    probe_line(bargewicker::probe(&sheet[..n], &list[..m], state), out)
-}
-
-// command SHEET LIST STATE COMMAND BUFFER: the numbers, and the strings of bytes behind them.
+// COMMAND BUFFER
 fn ask_command(
-    fields: &[u8],
-    sheet: &mut [u8],
-    list: &mut [u8],
-    lent: &mut [u8],
-    out: &mut [u8],
-) -> usize {
-    let second = other_fields(fields);
-    let third = other_fields(second);
-    let fourth = other_fields(third);
-    let asked_state = read_number(first_field(third));
-    let Number::Is(state) = asked_state else {
-        return bad_line(out);
-    };
-    let asked_command = read_number(first_field(fourth));
-    let Number::Is(command) = asked_command else {
-        return bad_line(out);
-    };
-    let s = decode(first_field(fields), sheet);
-    let l = decode(first_field(second), list);
-    let n = s.length;
-    let m = l.length;
-    if !(s.right & l.right) {
-        return bad_line(out);
-    }
-    put_command(
-        &sheet[..n],
-        &list[..m],
-        state,
-        command,
-        other_fields(fourth),
-        lent,
-        out,
-    )
-}
-
-// The command is put, with the buffer that the last field holds.
-fn put_command(
     sheet: &[u8],
     list: &[u8],
     state: u8,
-    command: u8,
-    field: &[u8],
+    fields: &[u8],
     lent: &mut [u8],
     out: &mut [u8],
 ) -> usize {
-    let b = decode(field, lent);
-    let k = b.length;
+    let asked = read_number(first_field(fields));
+    let Number::Is(command) = asked else {
+        return bad_line(out);
+    };
+    let b = decode(other_fields(fields), lent);
+    let n = b.length;
     if !b.right {
         return bad_line(out);
     }
-    command_with(sheet, list, state, command, &mut lent[..k], out)
+    command_with(sheet, list, state, command, &mut lent[..n], out)
 }
 
+// The command is put, and its line written.
 fn command_with(
     sheet: &[u8],
     list: &[u8],
@@ -146,26 +77,78 @@ fn command_with(
     command_line(answer, lent, out)
 }
 
-// loop SHEET PRESENT BUFFER
-fn ask_loop(fields: &[u8], sheet: &mut [u8], lent: &mut [u8], out: &mut [u8]) -> usize {
-    let rest = other_fields(fields);
-    let asked = read_number(first_field(rest));
+// STATE of a probe or a phase, or STATE COMMAND BUFFER.
+fn ask_state(
+    verb: Verb,
+    sheet: &[u8],
+    list: &[u8],
+    fields: &[u8],
+    lent: &mut [u8],
+    out: &mut [u8],
+) -> usize {
+    let asked = read_number(first_field(fields));
+    let Number::Is(state) = asked else {
+        return bad_line(out);
+    };
+    match verb {
+        Verb::Probe => probe_line(bargewicker::probe(sheet, list, state), out),
+        Verb::Phase => phase_line(bargewicker::when_phase(sheet, list, state), out),
+        _ => ask_command(sheet, list, state, other_fields(fields), lent, out),
+    }
+}
+
+// LIST and what is behind it.
+fn ask_list(
+    verb: Verb,
+    sheet: &[u8],
+    fields: &[u8],
+    list: &mut [u8],
+    lent: &mut [u8],
+    out: &mut [u8],
+) -> usize {
+    let l = decode(first_field(fields), list);
+    let n = l.length;
+    if !l.right {
+        return bad_line(out);
+    }
+    ask_state(verb, sheet, &list[..n], other_fields(fields), lent, out)
+}
+
+// PRESENT BUFFER
+fn ask_loop(sheet: &[u8], fields: &[u8], lent: &mut [u8], out: &mut [u8]) -> usize {
+    let asked = read_number(first_field(fields));
     let Number::Is(present) = asked else {
         return bad_line(out);
     };
-    let s = decode(first_field(fields), sheet);
-    let b = decode(other_fields(rest), lent);
-    let n = s.length;
-    let k = b.length;
-    if !(s.right & b.right) {
+    let b = decode(other_fields(fields), lent);
+    let n = b.length;
+    if !b.right {
         return bad_line(out);
     }
-    loop_with(&sheet[..n], present, &mut lent[..k], out)
+    loop_with(sheet, present, &mut lent[..n], out)
 }
 
+// The loop question is put, and its line written.
 fn loop_with(sheet: &[u8], present: u8, lent: &mut [u8], out: &mut [u8]) -> usize {
     let answer = bargewicker::loop_question(sheet, present, lent);
     loop_line(answer, lent, out)
+}
+
+// What is behind SHEET.
+fn ask(
+    verb: Verb,
+    sheet: &[u8],
+    fields: &[u8],
+    list: &mut [u8],
+    lent: &mut [u8],
+    out: &mut [u8],
+) -> usize {
+    match verb {
+        Verb::Judge => judge_line(bargewicker::judge(sheet), out),
+        Verb::Loop => ask_loop(sheet, fields, lent, out),
+        Verb::Other => bad_line(out),
+        _ => ask_list(verb, sheet, fields, list, lent, out),
+    }
 }
 
 // The answer to a line, written from the buffer's front on; the place behind it.
@@ -178,12 +161,10 @@ pub fn answer(
 ) -> usize {
     let verb = verb_of(first_field(line), count(line, b' '));
     let fields = other_fields(line);
-    match verb {
-        Verb::Judge => ask_judge(fields, sheet, out),
-        Verb::Probe => ask_state(false, fields, sheet, list, out),
-        Verb::Phase => ask_state(true, fields, sheet, list, out),
-        Verb::Command => ask_command(fields, sheet, list, lent, out),
-        Verb::Loop => ask_loop(fields, sheet, lent, out),
-        Verb::Other => bad_line(out),
+    let s = decode(first_field(fields), sheet);
+    let n = s.length;
+    if !s.right {
+        return bad_line(out);
     }
+    ask(verb, &sheet[..n], other_fields(fields), list, lent, out)
 }

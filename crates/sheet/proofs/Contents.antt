@@ -12,7 +12,7 @@ use borrow.Author.Tests.{eqb-true, leb-true}
 use Rattle.model.specs.Words.{each}
 use Rattle.model.proofs.Words.{and-left, and-right, each-elim}
 use Rattle.bodies.specs.Bytes.{Bytes}
-use Rattle.sheet.specs.Contents.{record-bytes, fewest, most, start, size, body, length-right, bodies-follow, count-right, counts-in-range, contents-right, bodies}
+use Rattle.sheet.specs.Contents.{record-bytes, fewest, most, start, size, body, length-right, bodies-follow, count-right, counts-in-range, contents-right, Bodies, bodies}
 use Rattle.bodies.specs.Clauses.{in-fours, in-eights}
 use Rattle.bodies.proofs.Bytes.{take-bytes, drop-bytes}
 
@@ -43,6 +43,19 @@ enough b k = leb (fewest k) (size b k / record-bytes k)
 
 abbrev not-many : List ℕ → ℕ → Bool
 not-many b k = leb (size b k / record-bytes k) (most k)
+
+-- the table's bounds, where they are used: whole records, and how many
+pub record Counted (s : Bodies) : Type 0 where
+  pub classes-whole : length (s .classes) ≡ in-fours (s .classes) * 4
+  pub classes-most : in-fours (s .classes) ≤ 8
+  pub states-whole : length (s .states) ≡ in-fours (s .states) * 4
+  pub states-least : 1 ≤ in-fours (s .states)
+  pub states-most : in-fours (s .states) ≤ 32
+  pub whens-whole : length (s .whens) ≡ in-fours (s .whens) * 4
+  pub whens-most : in-fours (s .whens) ≤ 256
+  pub actions-whole : length (s .actions) ≡ in-fours (s .actions) * 4
+  pub actions-most : in-fours (s .actions) ≤ 256
+  pub statements-most : in-eights (s .statements) ≤ 1024
 
 module _ (b : List ℕ) (h : contents-right b ≡ true) where
   -- the first half of the test
@@ -122,55 +135,19 @@ module _ (b : List ℕ) (h : contents-right b ≡ true) where
   pub body-whole : (k : ℕ) → k < 6 → length (body b k) ≡ length (body b k) / record-bytes k * record-bytes k
   body-whole k l = rw (body-length k l) (let z = div-add-mod' (size b k) (record-bytes k) in omega (arith, size-whole k l))
 
-  -- the same of each of the six bodies, by name: its length, and the table's bounds of its record count
-  pub classes-length : length (bodies b .classes) ≡ in-fours (bodies b .classes) * 4
+  -- the same of the bodies by name
+  pub counted : Counted (bodies b)
   unfolding bodies
-  classes-length = body-whole 0 (omega arith)
-
-  pub class-count-most : in-fours (bodies b .classes) ≤ 8
-  unfolding bodies
-  class-count-most = body-most 0 (omega arith)
-
-  pub states-length : length (bodies b .states) ≡ in-fours (bodies b .states) * 4
-  unfolding bodies
-  states-length = body-whole 1 (omega arith)
-
-  pub state-count-least : 1 ≤ in-fours (bodies b .states)
-  unfolding bodies
-  state-count-least = body-fewest 1 (omega arith)
-
-  pub state-count-most : in-fours (bodies b .states) ≤ 32
-  unfolding bodies
-  state-count-most = body-most 1 (omega arith)
-
-  pub whens-length : length (bodies b .whens) ≡ in-fours (bodies b .whens) * 4
-  unfolding bodies
-  whens-length = body-whole 2 (omega arith)
-
-  pub all-whens-most : in-fours (bodies b .whens) ≤ 256
-  unfolding bodies
-  all-whens-most = body-most 2 (omega arith)
-
-  pub guards-length : length (bodies b .guards) ≡ in-eights (bodies b .guards) * 8
-  unfolding bodies
-  guards-length = body-whole 3 (omega arith)
-
-  pub all-guards-most : in-eights (bodies b .guards) ≤ 1024
-  unfolding bodies
-  all-guards-most = body-most 3 (omega arith)
-
-  pub actions-length : length (bodies b .actions) ≡ in-fours (bodies b .actions) * 4
-  unfolding bodies
-  actions-length = body-whole 4 (omega arith)
-
-  pub all-actions-most : in-fours (bodies b .actions) ≤ 256
-  unfolding bodies
-  all-actions-most = body-most 4 (omega arith)
-
-  pub statements-length : length (bodies b .statements) ≡ in-eights (bodies b .statements) * 8
-  unfolding bodies
-  statements-length = body-whole 5 (omega arith)
-
-  pub all-statements-most : in-eights (bodies b .statements) ≤ 1024
-  unfolding bodies
-  all-statements-most = body-most 5 (omega arith)
+  counted =
+      record {
+        classes-whole = body-whole 0 (omega arith);
+        classes-most = body-most 0 (omega arith);
+        states-whole = body-whole 1 (omega arith);
+        states-least = body-fewest 1 (omega arith);
+        states-most = body-most 1 (omega arith);
+        whens-whole = body-whole 2 (omega arith);
+        whens-most = body-most 2 (omega arith);
+        actions-whole = body-whole 4 (omega arith);
+        actions-most = body-most 4 (omega arith);
+        statements-most = body-most 5 (omega arith);
+      }

@@ -1,28 +1,22 @@
--- Laws for the judge's code: the table of bodies, where the bodies lie, the rules in their order, and what an answer says.
+-- Laws for the judge's checks: the table of bodies, where the bodies lie, and the rules in their order.
 -- Assumes nothing.
 use Prim.Native.Nat.{ℕ, zero, suc, _+_, _-_, _<_, _≤_}
 use native.Mathlib.Omega.{arith}
-use mathlib.Core.Path.{_≡_, refl, sym, ap, subst, _∙_}
+use mathlib.Core.Path.{_≡_, refl, sym, ap, _∙_}
 use mathlib.Core.Bool.{Bool, true, false, _&&_, _||_, not}
 use mathlib.Core.List.{List, [], _∷_}
 use mathlib.Core.Logic.{_⊎_, inl, inr}
 use lib.Dec.{eqb, ltb, leb}
-use lib.ListN.{length, take, drop}
+use lib.ListN.{length}
 use borrow.Author.Tests.{eq-eqb, ne-eqb, not-true, not-false, eqb-true, lt-ltb, le-ltb, lt-leb, le-leb}
 use Rattle.model.specs.Words.{each}
-use Rattle.model.specs.Refusals.{number-of}
 use Rattle.model.proofs.Words.{clash, and-right, lt-or-le, each-broken}
-use Rattle.model.proofs.Refusals.{same-number}
-use Rattle.model.specs.declared.Refusal.{Refusal}
-use Rattle.sheet.specs.Contents.{record-bytes, start, size, body, length-right, bodies-follow, counts-in-range, contents-right, Bodies, bodies}
+use Rattle.sheet.specs.Contents.{record-bytes, start, size, length-right, bodies-follow, counts-in-range, contents-right, Bodies}
 use Rattle.bodies.specs.Clauses.{in-fours, in-eights, count-sum}
 use Rattle.sheet.specs.Rules.{checked, refusal-in, refusal}
 use Rattle.bodies.specs.BodyRules.{classes-right, counts-right, records-right, guards-right, targets-right, actions-plain, commands-apart, actions-right, statements-right}
 use Rattle.sheet.specs.declared.judging.Places.{Places}
-use Rattle.sheet.specs.declared.judging.Judged.{Judged}
-use Rattle.sheet.specs.declared.judging.Judged.the-variants.{Accepted, Refused}
-use Rattle.sheet.specs.Judgement.{places-of, place-numbers, judged-numbers, verdict-numbers, judgement, together, ShortBodies}
-use Rattle.sheet.proofs.Contents.{next-start, last-end, classes-length, class-count-most, states-length, state-count-most, whens-length, all-whens-most, actions-length, all-actions-most}
+use Rattle.sheet.specs.Judgement.{place-numbers, verdict-numbers, judgement}
 
 -- every record has some bytes
 pub some-bytes : (k : ℕ) → k < 6 → 0 < record-bytes k
@@ -162,146 +156,3 @@ module _ (b : List ℕ) {f r : Bool} (ef : f ≡ bodies-follow b) (er : r ≡ co
   pub contents-fit : not (f && r) ≡ false → contents-right b ≡ true
   unfolding contents-right
   contents-fit h = rw (ef, er) at (not-false (f && r) h)
-
--- the parts of a byte string that places mark off
-abbrev pub cut : List ℕ → Places → Bodies
-cut b p =
-    together (take (p .states - p .classes) (drop (p .classes) b))
-    (take (p .whens - p .states) (drop (p .states) b))
-    (take (p .guards - p .whens) (drop (p .whens) b))
-    (take (p .actions - p .guards) (drop (p .guards) b))
-    (take (p .statements - p .actions) (drop (p .actions) b))
-    (take (length b - p .statements) (drop (p .statements) b))
-
--- places in rising order, inside the byte string
-pub record Rising (b : List ℕ) (p : Places) : Type 0 where
-  pub states : p .classes ≤ p .states
-  pub whens : p .states ≤ p .whens
-  pub guards : p .whens ≤ p .guards
-  pub actions : p .guards ≤ p .actions
-  pub statements : p .actions ≤ p .statements
-  pub end : p .statements ≤ length b
-
-module _ (b : List ℕ) (h : contents-right b ≡ true) where
-  part-body : (k : ℕ) → k < 5 → take (start b (k + 1) - start b k) (drop (start b k) b) ≡ body b k
-  unfolding body
-  part-body k l =
-      let e : start b (k + 1) - start b k ≡ size b k = omega (arith, next-start b h k l) in
-      ap (λ (n : ℕ). take n (drop (start b k) b)) e
-
-  last-body : take (length b - start b 5) (drop (start b 5) b) ≡ body b 5
-  unfolding body
-  last-body =
-      let e : length b - start b 5 ≡ size b 5 = omega (arith, last-end b h) in
-      ap (λ (n : ℕ). take n (drop (start b 5) b)) e
-
-  cut-bodies : cut b (places-of b) ≡ bodies b
-  unfolding bodies
-  cut-bodies = λ i.
-      record {
-        classes = part-body 0 (omega arith) i;
-        states = part-body 1 (omega arith) i;
-        whens = part-body 2 (omega arith) i;
-        guards = part-body 3 (omega arith) i;
-        actions = part-body 4 (omega arith) i;
-        statements = last-body i;
-      }
-
-  bodies-short : let s = bodies b in ShortBodies (s .classes) (s .states) (s .whens) (s .actions)
-  bodies-short =
-      record {
-        classes-short = omega (arith, classes-length b h, class-count-most b h);
-        states-short = omega (arith, states-length b h, state-count-most b h);
-        whens-short = omega (arith, whens-length b h, all-whens-most b h);
-        actions-short = omega (arith, actions-length b h, all-actions-most b h);
-      }
-
-  rising-places : Rising b (places-of b)
-  rising-places =
-      record {
-        states = omega (arith, next-start b h 0 (omega arith));
-        whens = omega (arith, next-start b h 1 (omega arith));
-        guards = omega (arith, next-start b h 2 (omega arith));
-        actions = omega (arith, next-start b h 3 (omega arith));
-        statements = omega (arith, next-start b h 4 (omega arith));
-        end = omega (arith, last-end b h);
-      }
-
-  -- the same at the places that were read
-  module _ {p : Places} (e : p ≡ places-of b) where
-    pub rising : Rising b p
-    rising = subst (λ (p : Places). Rising b p) (sym e) rising-places
-
-    pub cut-right : cut b p ≡ bodies b
-    cut-right = ap (cut b) e ∙ cut-bodies
-
-    pub cut-short : let s = cut b p in ShortBodies (s .classes) (s .states) (s .whens) (s .actions)
-    cut-short = subst (λ (s : Bodies). ShortBodies (s .classes) (s .states) (s .whens) (s .actions)) (sym cut-right) bodies-short
-
-    pub judged : {l : List ℕ} → length-right b ≡ true → l ≡ verdict-numbers (refusal-in (cut b p)) p → l ≡ judgement b
-    unfolding judgement refusal
-    judged {l} r j =
-        let f : judgement b ≡ verdict-numbers (refusal-in (bodies b)) (places-of b) = rw (r, h) in
-        j ∙ ap (λ (s : Bodies). verdict-numbers (refusal-in s) p) cut-right ∙ ap (verdict-numbers (refusal-in (bodies b))) e ∙ sym f
-
--- the answer's numbers tell the answer
-same-places : (p q : Places) → place-numbers p ≡ place-numbers q → p ≡ q
-same-places p q e =
-    let a : p .classes ≡ q .classes = cc in
-    let b : p .states ≡ q .states = cc in
-    let c : p .whens ≡ q .whens = cc in
-    let d : p .guards ≡ q .guards = cc in
-    let f : p .actions ≡ q .actions = cc in
-    let g : p .statements ≡ q .statements = cc in
-    λ i. record { classes = a i; states = b i; whens = c i; guards = d i; actions = f i; statements = g i }
-
-same-answer : (r s : Judged) → judged-numbers r ≡ judged-numbers s → r ≡ s
-same-answer (Accepted p) (Accepted q) e = ap Accepted (same-places p q (cc))
-same-answer (Accepted p) (Refused y) e = absurd (clash (cc))
-same-answer (Refused x) (Accepted q) e = absurd (clash (cc))
-same-answer (Refused x) (Refused y) e = ap Refused (same-number x y (cc))
-
--- the judge's promise leaves one answer
-pub one-judgement : (b : List ℕ) (r s : Judged) → judged-numbers r ≡ judgement b → judged-numbers s ≡ judgement b → r ≡ s
-one-judgement b r s e f = same-answer r s (e ∙ sym f)
-
--- what acceptance and refusal say
-verdict-accepted : (n : ℕ) (p q : Places) → 0 ∷ place-numbers p ≡ verdict-numbers n q → (n ≡ 0) × (p ≡ q)
-verdict-accepted zero p q e = (refl, same-places p q (cc))
-verdict-accepted (suc n) p q e = let f : 0 ∷ place-numbers p ≡ suc n ∷ [] = rw (ne-eqb (suc n) 0 (λ z. omega arith)) at e in absurd (clash (cc))
-
-verdict-refused : (n : ℕ) (x : Refusal) (q : Places) → number-of x ∷ [] ≡ verdict-numbers n q → (number-of x ≡ n) × (0 < n)
-verdict-refused zero x q e = absurd (clash (cc))
-verdict-refused (suc n) x q e = let f : number-of x ∷ [] ≡ suc n ∷ [] = rw (ne-eqb (suc n) 0 (λ z. omega arith)) at e in (cc, (omega arith))
-
--- a refusal number is at most 9
-checked-most : (ok : Bool) (n : ℕ) (rest : Unit {0} → ℕ) → n ≤ 9 → rest tt ≤ 9 → checked ok n rest ≤ 9
-checked-most true n rest l m = m
-checked-most false n rest l m = l
-
-pub refusal-most : (b : List ℕ) → refusal b ≤ 9
-unfolding refusal refusal-in
-refusal-most b =
-    checked-most (length-right b) 1 _ (omega arith)
-    (checked-most (contents-right b) 2 _ (omega arith)
-    (let s = bodies b in
-    checked-most (classes-right (s .classes)) 3 _ (omega arith)
-    (checked-most (counts-right (s .states) (in-fours (s .whens)) (in-fours (s .actions))) 4 _ (omega arith)
-    (checked-most (records-right (in-fours (s .classes)) (s .guards)) 5 _ (omega arith)
-    (checked-most (guards-right (s .guards) (s .whens)) 6 _ (omega arith)
-    (checked-most (targets-right (s .states) (s .whens)) 7 _ (omega arith)
-    (checked-most (actions-right (s .states) (s .actions) (in-eights (s .statements))) 8 _ (omega arith)
-    (checked-most (statements-right (in-fours (s .classes)) (in-fours (s .states)) (s .guards) (s .actions) (s .statements)) 9 _ (omega arith) (omega arith)))))))))
-
-module _ (b : List ℕ) (r : Judged) (e : judged-numbers r ≡ judgement b) where
-  -- an accepted sheet keeps the rules, and its places are those that its contents name
-  pub told-accepted : (p : Places) → r ≡ Accepted p → (refusal b ≡ 0) × (p ≡ places-of b)
-  unfolding judgement
-  told-accepted p a = verdict-accepted (refusal b) p (places-of b) (rw a at e)
-
-  -- a refused one gets the number of the first rule that it breaks
-  pub told-refused : (x : Refusal) → r ≡ Refused x → (number-of x ≡ refusal b) × (1 ≤ number-of x) × (number-of x ≤ 9)
-  unfolding judgement
-  told-refused x a =
-      let (f, l) = verdict-refused (refusal b) x (places-of b) (rw a at e) in
-      (f, (omega arith), (omega (arith, refusal-most b)))

@@ -5,3 +5,5 @@ pub mod Reading
 pub mod Sound
 pub mod ReaderLaws
 pub mod JudgeLaws
+pub mod PlaceLaws
+pub mod VerdictLaws

@@ -11,7 +11,7 @@ use Rattle.bodies.specs.Clauses.{in-fours}
 use Rattle.sheet.specs.Judgement.{places-of, Stands}
 use Rattle.sheet.specs.Runs.{place-at}
 use Rattle.sheet.specs.declared.judging.Places.{Places}
-use Rattle.sheet.proofs.Contents.{next-start, last-end, body-inside, class-count-most, state-count-most}
+use Rattle.sheet.proofs.Contents.{next-start, last-end, body-inside, counted}
 use Rattle.sheet.proofs.Rules.{accepted-right}
 
 -- past the last body is the end
@@ -73,8 +73,8 @@ module _ (b : List ℕ) (p : Places) (s : Stands b p) (k : ℕ) (l : k < 6) wher
 module _ (b : List ℕ) (p : Places) (s : Stands b p) (l : List ℕ) where
   pub states-few : l ≡ body b 1 → (length l / 4 ≡ in-fours (body b 1)) × (length l / 4 ≤ 32)
   unfolding bodies
-  states-few e = rw e (refl, state-count-most b (stands-right b p s))
+  states-few e = rw e (refl, counted b (stands-right b p s) .states-most)
 
   pub classes-few : l ≡ body b 0 → (length l / 4 ≡ in-fours (body b 0)) × (length l / 4 ≤ 8)
   unfolding bodies
-  classes-few e = rw e (refl, class-count-most b (stands-right b p s))
+  classes-few e = rw e (refl, counted b (stands-right b p s) .classes-most)

@@ -3,15 +3,17 @@
 use Prim.Native.Nat.{ℕ, _+_, _-_, _<_, _≤_}
 use native.Mathlib.Omega.{arith}
 use mathlib.Core.Path.{_≡_, refl, ap, subst, _∙_}
-use mathlib.Core.List.{List·Memᴰ, List·Memᴰ·not-nil}
+use mathlib.Core.List.{List, [], List·Memᴰ, List·Memᴰ·not-nil}
 use mathlib.Core.Logic.{_⊎_, inl, inr}
 use lib.ListN.{length, getD}
+use Rattle.model.specs.Words.{listed}
 use Rattle.model.specs.Tree.{When, Action, State, no-state}
 use Rattle.model.specs.Node.{own-states, state-of}
 use Rattle.model.specs.Crews.{child-classes}
-use Rattle.model.proofs.Words.{lt-or-le, length-listed, getD-listed, getD-past, mem-listed}
+use Rattle.model.proofs.Words.{lt-or-le}
+use Rattle.model.proofs.Lists.{length-listed, getD-listed, getD-past, mem-listed}
 use Rattle.sheet.specs.Contents.{Bodies}
-use Rattle.bodies.specs.Clauses.{in-fours, name-set, when-count, action-count, first-when, first-action}
+use Rattle.bodies.specs.Clauses.{in-fours, name-set, count-at, count-sum, when-count, action-count, first-when, first-action}
 use Rattle.sheet.specs.Reading.{when-in, action-in, state-in, class-in}
 
 module _ (s : Bodies) where
@@ -38,47 +40,36 @@ module _ (s : Bodies) where
   unfolding class-in
   state-of-past q l = getD-past 0 (in-fours (s .states)) (state-in s) no-state q l
 
-  -- a state has as many clauses as its record says
-  pub whens-in : (q : ℕ) → q < in-fours (s .states) → length (state-of (class-in s) q .whens) ≡ when-count (s .states) q
-  unfolding state-in
-  whens-in q l = rw (state-of-in q l) (length-listed (first-when (s .states) q) (when-count (s .states) q) (when-in s))
+  -- the clauses of one kind: state q lists them from its first on, as many as its record says
+  module _ {A : Type 0} (clauses : State → List A) (offset : ℕ) (read : ℕ → A) (reads : (q : ℕ) → clauses (state-in s q) ≡ listed (count-sum (s .states) offset q) (count-at (s .states) offset q) read) (none : clauses no-state ≡ []) where
+    -- a clause in a state is one of the state's by number, and the state is one of the S
+    mem-clauses : (q : ℕ) (x : A) → List·Memᴰ x (clauses (state-of (class-in s) q))
+        → (i : ℕ) × (q < in-fours (s .states)) × (i < count-at (s .states) offset q) × (x ≡ read (count-sum (s .states) offset q + i))
+    mem-clauses q x m = go (lt-or-le q (in-fours (s .states)))
+      where
+        go : (q < in-fours (s .states)) ⊎ (in-fours (s .states) ≤ q) → (i : ℕ) × (q < in-fours (s .states)) × (i < count-at (s .states) offset q) × (x ≡ read (count-sum (s .states) offset q + i))
+        go (inl l) =
+            let first = count-sum (s .states) offset q in
+            let (a, u, v, e) = mem-listed first (count-at (s .states) offset q) read x (subst (λ (y : List A). List·Memᴰ x y) (ap clauses (state-of-in q l) ∙ reads q) m) in
+            let z : a ≡ first + (a - first) = omega arith in
+            (a - first, l, (omega arith), (e ∙ ap read z))
+        go (inr l) = absurd (List·Memᴰ·not-nil (subst (λ (y : List A). List·Memᴰ x y) (ap clauses (state-of-past q l) ∙ none) m))
 
-  pub actions-in : (q : ℕ) → q < in-fours (s .states) → length (state-of (class-in s) q .actions) ≡ action-count (s .states) q
-  unfolding state-in
-  actions-in q l = rw (state-of-in q l) (length-listed (first-action (s .states) q) (action-count (s .states) q) (action-in s))
-
-  -- clause i of state q is clause i behind the first of the state
-  pub when-of-in : (q i : ℕ) (d : When) → q < in-fours (s .states) → i < when-count (s .states) q → getD (state-of (class-in s) q .whens) i d ≡ when-in s (first-when (s .states) q + i)
-  unfolding state-in
-  when-of-in q i d l m = rw (state-of-in q l) (getD-listed (first-when (s .states) q) (when-count (s .states) q) (when-in s) d i (first-when (s .states) q + i) m refl)
-
-  pub action-of-in : (q i : ℕ) (d : Action) → q < in-fours (s .states) → i < action-count (s .states) q → getD (state-of (class-in s) q .actions) i d ≡ action-in s (first-action (s .states) q + i)
-  unfolding state-in
-  action-of-in q i d l m = rw (state-of-in q l) (getD-listed (first-action (s .states) q) (action-count (s .states) q) (action-in s) d i (first-action (s .states) q + i) m refl)
-
-  -- a clause in a state is one of the state's by number, and the state is one of the S
   pub mem-whens : (q : ℕ) (w : When) → List·Memᴰ w (state-of (class-in s) q .whens)
       → (i : ℕ) × (q < in-fours (s .states)) × (i < when-count (s .states) q) × (w ≡ when-in s (first-when (s .states) q + i))
   unfolding state-in
-  mem-whens q w m = go (lt-or-le q (in-fours (s .states)))
-    where
-      go : (q < in-fours (s .states)) ⊎ (in-fours (s .states) ≤ q) → (i : ℕ) × (q < in-fours (s .states)) × (i < when-count (s .states) q) × (w ≡ when-in s (first-when (s .states) q + i))
-      go (inl l) =
-          let m′ : List·Memᴰ w (state-in s q .whens) = subst (λ (x : State). List·Memᴰ w (x .whens)) (state-of-in q l) m in
-          let (a, u, v, e) = mem-listed (first-when (s .states) q) (when-count (s .states) q) (when-in s) w m′ in
-          let z : a ≡ first-when (s .states) q + (a - first-when (s .states) q) = omega arith in
-          (a - first-when (s .states) q, l, (omega arith), (e ∙ ap (when-in s) z))
-      go (inr l) = absurd (List·Memᴰ·not-nil (subst (λ (x : State). List·Memᴰ w (x .whens)) (state-of-past q l) m))
+  mem-whens = mem-clauses (λ x. x .whens) 0 (when-in s) (λ q. refl) refl
 
   pub mem-actions : (q : ℕ) (a : Action) → List·Memᴰ a (state-of (class-in s) q .actions)
       → (i : ℕ) × (q < in-fours (s .states)) × (i < action-count (s .states) q) × (a ≡ action-in s (first-action (s .states) q + i))
   unfolding state-in
-  mem-actions q w m = go (lt-or-le q (in-fours (s .states)))
-    where
-      go : (q < in-fours (s .states)) ⊎ (in-fours (s .states) ≤ q) → (i : ℕ) × (q < in-fours (s .states)) × (i < action-count (s .states) q) × (w ≡ action-in s (first-action (s .states) q + i))
-      go (inl l) =
-          let m′ : List·Memᴰ w (state-in s q .actions) = subst (λ (x : State). List·Memᴰ w (x .actions)) (state-of-in q l) m in
-          let (a, u, v, e) = mem-listed (first-action (s .states) q) (action-count (s .states) q) (action-in s) w m′ in
-          let z : a ≡ first-action (s .states) q + (a - first-action (s .states) q) = omega arith in
-          (a - first-action (s .states) q, l, (omega arith), (e ∙ ap (action-in s) z))
-      go (inr l) = absurd (List·Memᴰ·not-nil (subst (λ (x : State). List·Memᴰ w (x .actions)) (state-of-past q l) m))
+  mem-actions = mem-clauses (λ x. x .actions) 2 (action-in s) (λ q. refl) refl
+
+  -- a state has as many action clauses as its record says, and clause i is clause i behind its first
+  pub actions-in : (q : ℕ) → q < in-fours (s .states) → length (state-of (class-in s) q .actions) ≡ action-count (s .states) q
+  unfolding state-in
+  actions-in q l = rw (state-of-in q l) (length-listed (first-action (s .states) q) (action-count (s .states) q) (action-in s))
+
+  pub action-of-in : (q i : ℕ) (d : Action) → q < in-fours (s .states) → i < action-count (s .states) q → getD (state-of (class-in s) q .actions) i d ≡ action-in s (first-action (s .states) q + i)
+  unfolding state-in
+  action-of-in q i d l m = rw (state-of-in q l) (getD-listed (first-action (s .states) q) (action-count (s .states) q) (action-in s) d i (first-action (s .states) q + i) m refl)

@@ -9,7 +9,7 @@ use mathlib.Core.Option.{Option, none, some}
 use lib.Dec.{eqb, ltb}
 use lib.ListN.{length, getD}
 use borrow.Author.Tests.{eqb-false, not-true, ltb-true}
-use Rattle.model.specs.Words.{choose, maybe, has, each}
+use Rattle.model.specs.Words.{choose, maybe, has}
 use Rattle.model.specs.Tree.{When, Part, end, Action, Class}
 use Rattle.model.specs.Node.{own-states, state-of}
 use Rattle.model.specs.Crews.{child-classes}
@@ -23,7 +23,7 @@ use Rattle.bodies.specs.BodyRules.{classes-right, target-right, state-targets-r
 use Rattle.sheet.specs.Reading.{when-in, action-in, class-in, class-of}
 use Rattle.bodies.proofs.Bytes.{u32-below}
 use Rattle.bodies.proofs.Bits.{some-bit}
-use Rattle.sheet.proofs.Contents.{body-bytes, state-count-least}
+use Rattle.sheet.proofs.Contents.{body-bytes, counted}
 use Rattle.sheet.proofs.Rules.{BodiesRight, accepted-right}
 use Rattle.sheet.proofs.Reading.{child-classes-in, own-states-in, name-set-in, actions-in, mem-whens, mem-actions}
 use Rattle.bodies.proofs.Parts.{PartWithin, part-at-within}
@@ -93,7 +93,7 @@ sound b h accepted =
     let right = accepted-right b accepted in
     let s = bodies b in
     record {
-      some-state = omega (arith, own-states-in s, state-count-least b (right .contents));
+      some-state = omega (arith, own-states-in s, counted b (right .contents) .states-least);
       named = named-in s (right .bodies) (body-bytes b h 0);
       sets = sets-in s (body-bytes b h 0);
       referrers = referrers-in s (right .bodies);

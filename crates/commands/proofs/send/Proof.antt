@@ -1,7 +1,6 @@
 -- The loop goes from the first pair on; its invariant, `Sending`: with what is left to be sent the buffer is as it is to be.
 -- Assumes nothing.
-use Prim.Native.Nat.{_-_, _*_, _/_}
-use native.Mathlib.Omega.{arith}
+use Prim.Native.Nat.{_-_, _/_}
 use borrow.Author.Needs.{needs}
 use lib.ListN.{length}
 use Rattle.bodies.specs.Patterns.{pattern-as}

@@ -1,15 +1,13 @@
 -- `guard_end` answers where the guard that the rules read ends: a law for each way out. The depth falls with each call.
 -- Assumes nothing.
 use borrow.Author.Needs.{needs}
-use Prim.Native.Nat.{ℕ, _<_, _+_, _-_, _/_}
+use Prim.Native.Nat.{ℕ, _<_, _+_, _-_}
 use native.Mathlib.Omega.{arith}
 use mathlib.Core.Path.{_≡_, sym, _∙_, ap}
 use mathlib.Core.List.{List}
-use lib.ListN.{length}
 use borrow.Fn.Kinds.{In}
 use borrow.Fn.PlainCycle.{Measures, is, falls, and}
 use Rattle.bodies.specs.Bytes.{byte, record-at}
-use Rattle.bodies.specs.GuardRecords.{guard-at}
 use Rattle.bodies.specs.Ends.{end-of}
 use Rattle.bodies.proofs.GuardLaws.{operand, operand-none, operand-some, end-past, end-atom, end-unknown, end-one, end-two, end-first}
 use Rattle.bodies.proofs.guards.guard_end.Reads as guard-end

@@ -6,7 +6,7 @@ use mathlib.Core.Path.{_≡_, sym}
 use mathlib.Core.Bool.{true}
 use Rattle.model.specs.Words.{each}
 use Rattle.model.proofs.Words.{each-none}
-use Rattle.loops.proofs.CellLaws.{counted, empty-one, counted-one, counted-all}
+use Rattle.loops.proofs.SpreadLaws.{counted, empty-one, counted-one, counted-all}
 use Rattle.loops.proofs.cells.counts.Statement.{statement}
 use Rattle.loops.proofs.cells.counts.Tie as tie
 

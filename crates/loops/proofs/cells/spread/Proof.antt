@@ -3,7 +3,7 @@
 use borrow.Author.Needs.{needs}
 use Prim.Native.Nat.{_-_, _<_}
 use native.Mathlib.Omega.{arith}
-use Rattle.loops.proofs.CellLaws.{Spreading, spreading-start, spreading-more, spreading-past, spreading-end}
+use Rattle.loops.proofs.SpreadLaws.{Spreading, spreading-start, spreading-more, spreading-past, spreading-end}
 use Rattle.loops.proofs.cells.spread.Statement.{statement}
 use Rattle.loops.proofs.cells.spread.Tie as tie
 

@@ -4,7 +4,8 @@ use borrow.Author.Needs.{needs}
 use Prim.Native.Nat.{_-_, _≤_}
 use Rattle.model.specs.Moves.{returns-soon}
 use Rattle.loops.specs.Chase.{table-next, move-count}
-use Rattle.loops.proofs.ChaseLaws.{walk-returned, walk-made, Passing, passing-start, passing-more, passing-same, passing-found, passing-end}
+use Rattle.loops.proofs.WalkLaws.{walk-returned, walk-made}
+use Rattle.loops.proofs.ChaseLaws.{Passing, passing-start, passing-more, passing-same, passing-found, passing-end}
 use Rattle.loops.proofs.chase.chase_from.Statement.{statement}
 use Rattle.loops.proofs.chase.chase_from.Tie as tie
 

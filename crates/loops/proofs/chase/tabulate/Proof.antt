@@ -3,7 +3,7 @@
 use native.Mathlib.Omega.{arith}
 use borrow.Author.Needs.{needs}
 use Prim.Native.Nat.{_-_, _≤_}
-use Rattle.loops.proofs.ChaseLaws.{Tabulating, tabulating-start, tabulating-more, tabulating-end}
+use Rattle.loops.proofs.TableLaws.{Tabulating, tabulating-start, tabulating-more, tabulating-end}
 use Rattle.loops.proofs.chase.tabulate.Statement.{statement}
 use Rattle.loops.proofs.chase.tabulate.Tie as tie
 

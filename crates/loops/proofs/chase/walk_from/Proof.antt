@@ -2,7 +2,7 @@
 -- Assumes nothing.
 use borrow.Author.Needs.{needs}
 use Prim.Native.Nat.{_-_}
-use Rattle.loops.proofs.ChaseLaws.{Walking, walking-start, walking-out, walking-stops, walking-back, walking-more, walking-all}
+use Rattle.loops.proofs.WalkLaws.{Walking, walking-start, walking-out, walking-stops, walking-back, walking-more, walking-all}
 use Rattle.loops.proofs.chase.walk_from.Statement.{statement}
 use Rattle.loops.proofs.chase.walk_from.Tie as tie
 

@@ -2,7 +2,6 @@
 -- Assumes nothing.
 use native.Mathlib.Omega.{arith}
 use borrow.Author.Needs.{needs}
-use mathlib.Core.Path.{sym}
 use Rattle.node.proofs.CrewLaws.{names-all, names-one, names-none}
 use Rattle.node.proofs.crews.occupied_names.Statement.{statement}
 use Rattle.node.proofs.crews.occupied_names.Tie as tie

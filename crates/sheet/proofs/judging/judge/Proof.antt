@@ -4,7 +4,8 @@ use mathlib.Core.Path.{_≡_}
 use mathlib.Core.Bool.{true}
 use borrow.Author.Needs.{needs}
 use Rattle.sheet.specs.Contents.{length-right, contents-right}
-use Rattle.sheet.proofs.JudgeLaws.{length-wrong, length-fits, contents-wrong, contents-fit, Rising, rising, cut-short, judged}
+use Rattle.sheet.proofs.JudgeLaws.{length-wrong, length-fits, contents-wrong, contents-fit}
+use Rattle.sheet.proofs.PlaceLaws.{Rising, rising, cut-short, judged}
 use Rattle.sheet.proofs.judging.judge.Statement.{statement}
 use Rattle.sheet.proofs.judging.judge.Tie as tie
 

@@ -1,11 +1,11 @@
 -- The invariant: what is left has the answer. A turn looks at one byte.
 -- Assumes nothing.
-use Prim.Native.Nat.{_-_, _<_, _≤_}
+use Prim.Native.Nat.{_-_}
 use native.Mathlib.Omega.{arith}
 use mathlib.Core.Path.{_≡_, refl, sym}
 use lib.ListN.{length, drop}
 use Rattle.texts.specs.Fields.{hex-digits}
-use Rattle.texts.proofs.FieldLaws.{hex-on, hex-broken, hex-end}
+use Rattle.texts.proofs.HexLaws.{hex-on, hex-broken, hex-end}
 use borrow.Author.Needs.{needs}
 use Rattle.texts.proofs.reading.all_hex.Statement.{statement}
 use Rattle.texts.proofs.reading.all_hex.Tie as tie

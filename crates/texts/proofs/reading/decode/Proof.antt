@@ -1,10 +1,9 @@
 -- One law for each way; the test that decides is the same in the code and in the definition.
 -- Assumes nothing.
 use native.Mathlib.Omega.{arith}
-use lib.ListN.{length}
 use borrow.Author.Tests.{not-true, not-false}
 use Rattle.io.proofs.Counting.{counts}
-use Rattle.texts.proofs.FieldLaws.{decode-none, decode-one, decode-wrong, decode-right, decode-fits}
+use Rattle.texts.proofs.HexLaws.{decode-none, decode-one, decode-wrong, decode-right, decode-fits}
 use borrow.Author.Needs.{needs}
 use Rattle.texts.proofs.reading.decode.Statement.{statement}
 use Rattle.texts.proofs.reading.decode.Tie as tie

@@ -1,7 +1,7 @@
 -- The tests are those of the definition.
 -- Assumes nothing.
 use native.Mathlib.Omega.{arith}
-use Rattle.texts.proofs.FieldLaws.{digit-low, digit-is, digit-high}
+use Rattle.texts.proofs.HexLaws.{digit-low, digit-is, digit-high}
 use borrow.Author.Needs.{needs}
 use Rattle.texts.proofs.reading.digit_value.Statement.{statement}
 use Rattle.texts.proofs.reading.digit_value.Tie as tie

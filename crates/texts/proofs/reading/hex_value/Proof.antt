@@ -1,7 +1,7 @@
 -- The tests are those of the definition.
 -- Assumes nothing.
 use native.Mathlib.Omega.{arith}
-use Rattle.texts.proofs.FieldLaws.{hex-low, hex-figure, hex-middle, hex-letter, hex-high}
+use Rattle.texts.proofs.HexLaws.{hex-low, hex-figure, hex-middle, hex-letter, hex-high}
 use borrow.Author.Needs.{needs}
 use Rattle.texts.proofs.reading.hex_value.Statement.{statement}
 use Rattle.texts.proofs.reading.hex_value.Tie as tie

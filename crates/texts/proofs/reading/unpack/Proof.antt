@@ -5,7 +5,7 @@ use mathlib.Core.Path.{_≡_, refl, _∙_}
 use lib.ListN.{length, drop}
 use lib.Seq.{sets}
 use Rattle.texts.specs.Fields.{hex-bytes}
-use Rattle.texts.proofs.FieldLaws.{unpack-on, unpack-end}
+use Rattle.texts.proofs.HexLaws.{unpack-on, unpack-end}
 use borrow.Author.Needs.{needs}
 use Rattle.texts.proofs.reading.unpack.Statement.{statement}
 use Rattle.texts.proofs.reading.unpack.Tie as tie

@@ -4,7 +4,7 @@ use Prim.Native.Nat.{_-_, _≤_}
 use mathlib.Core.Path.{_≡_, _∙_}
 use lib.ListN.{length, take}
 use Rattle.texts.specs.Texts.{Appended, hex-text}
-use Rattle.texts.proofs.Appending.{appended-none, appended-same, appended-hex, appended-all-hex}
+use Rattle.texts.proofs.Appending.{appended-none, appended-hex, appended-all-hex}
 use borrow.Author.Needs.{needs}
 use Rattle.texts.proofs.writing.append_hex.Statement.{statement}
 use Rattle.texts.proofs.writing.append_hex.Tie as tie

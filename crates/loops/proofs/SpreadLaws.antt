@@ -1,0 +1,116 @@
+-- Laws about a configuration spread into sets, and when it is not skipped.
+-- Assumes nothing.
+use Prim.Native.Nat.{ℕ, suc, _+_, _-_, _/_, _^_, _<_, _≤_}
+use native.Mathlib.Omega.{arith}
+use native.Mathlib.Numerals.{add-one}
+use mathlib.Core.Path.{_≡_, refl, sym, ap, _∙_, subst}
+use mathlib.Core.Bool.{Bool, true, false, _&&_, _||_, not}
+use mathlib.Core.List.{List}
+use lib.Dec.{eqb}
+use lib.Bits.{bitAnd, bitOr}
+use lib.ListN.{length, getD, set, drop, replicate, getD-replicate, length-set, drop-of-length-le}
+use lib.Pow.{shr-shr}
+use lib.Seq.{drop-cons}
+use borrow.Author.Tests.{ne-eqb}
+use Rattle.model.specs.Words.{has, each, kept, some-in}
+use Rattle.model.specs.Tree.{Child}
+use Rattle.model.specs.Crews.{occupied}
+use Rattle.model.proofs.Lists.{length-listed, getD-listed}
+use Rattle.model.proofs.Words.{each-broken, each-so-far, each-all, true-not-false}
+use Rattle.bodies.proofs.Bits.{has-none}
+use Rattle.node.specs.Sets.{Shows}
+use Rattle.node.proofs.CrewLaws.{shifted, shows-more}
+use Rattle.loops.specs.Configurations.{chosen}
+use Rattle.loops.specs.Cells.{held, Spreads, counts-on}
+use Rattle.loops.proofs.CellLaws.{set-small, zeros-small}
+
+-- what is chosen of a list from entry i on
+chosen-from : (xs : List Child) (k i : ℕ) (d : Child) → i < length xs
+    → chosen (drop i xs) (k / 2 ^ i) ≡ kept (has k i) (getD xs i d) (chosen (drop (suc i) xs) (k / 2 ^ suc i))
+unfolding chosen has
+chosen-from xs k i d l = rw (drop-cons xs i d l, shr-shr k i 1) (let e : i + 1 ≡ suc i = add-one i in rw e)
+
+-- from the last cell down: the sets show what is chosen of the cells from i on
+pub record Spreading (cs ns : List ℕ) (n k : ℕ) (sets : List ℕ) (i : ℕ) : Type 0 where
+  pub inside : i ≤ n
+  pub eight : length sets ≡ 8
+  pub narrow : (j : ℕ) → getD sets j 0 < 2 ^ 32
+  pub shown : Shows sets (chosen (drop i (held cs ns n)) (k / 2 ^ i))
+
+module _ (cs ns : List ℕ) (n k : ℕ) where
+  length-held : length (held cs ns n) ≡ n
+  unfolding held
+  length-held = length-listed 0 n (λ i. record { class = getD cs i 0; name = getD ns i 0 })
+
+  at-held : (i : ℕ) (d : Child) → i < n → getD (held cs ns n) i d ≡ record { class = getD cs i 0; name = getD ns i 0 }
+  unfolding held
+  at-held i d l = getD-listed 0 n (λ i. record { class = getD cs i 0; name = getD ns i 0 }) d i i l (omega arith)
+
+  pub spreading-start : Spreading cs ns n k (replicate 8 0) n
+  unfolding occupied some-in chosen
+  spreading-start =
+      record {
+        inside = omega arith;
+        eight = refl;
+        narrow = zeros-small 8 (2 ^ 32) (omega arith);
+        shown = λ j m p q. rw (drop-of-length-le (held cs ns n) (let z : length (held cs ns n) ≤ n = (let x = length-held in omega arith) in z), getD-replicate {A = ℕ} 8 j 0 0 p) (has-none m);
+      }
+
+  module _ (sets : List ℕ) (i : ℕ) (s : Spreading cs ns n k sets i) (turn : 0 < i) where
+    step : chosen (drop (i - 1) (held cs ns n)) (k / 2 ^ (i - 1)) ≡ kept (has k (i - 1)) (record { class = getD cs (i - 1) 0; name = getD ns (i - 1) 0 }) (chosen (drop i (held cs ns n)) (k / 2 ^ i))
+    step =
+        let z : suc (i - 1) ≡ i = omega arith in
+        let d : Child = record { class = 0; name = 0 } in
+        rw (chosen-from (held cs ns n) k (i - 1) d (let x = length-held in let y = s .inside in omega arith), z, at-held (i - 1) d (let y = s .inside in omega arith))
+
+    pub spreading-more : (r : ℕ) → bitAnd (k / 2 ^ (i - 1)) 1 ≡ 1 → (x y : ℕ) → x ≡ getD cs (i - 1) 0 → y ≡ getD ns (i - 1) 0 → x < 8 → r ≡ bitOr (getD sets x 0) (2 ^ y) → r < 2 ^ 32
+        → Spreading cs ns n k (set sets x r) (i - 1)
+    spreading-more r t x y ex ey l e u =
+        let h : has k (i - 1) ≡ true = sym (shifted k (i - 1)) ∙ ap (λ (x : ℕ). eqb x 1) t in
+        record {
+          inside = (let y = s .inside in omega arith);
+          eight = length-set sets x r ∙ s .eight;
+          narrow = set-small sets x r (2 ^ 32) u (s .narrow);
+          shown = rw (step, sym ex, sym ey, h, e) (shows-more sets (chosen (drop i (held cs ns n)) (k / 2 ^ i)) x y (let z = s .eight in omega arith) (s .shown));
+        }
+
+    pub spreading-past : (bitAnd (k / 2 ^ (i - 1)) 1 ≡ 1 → ⊥) → Spreading cs ns n k sets (i - 1)
+    spreading-past t =
+        let h : has k (i - 1) ≡ false = sym (shifted k (i - 1)) ∙ ne-eqb (bitAnd (k / 2 ^ (i - 1)) 1) 1 t in
+        record { inside = (let y = s .inside in omega arith); eight = s .eight; narrow = s .narrow; shown = rw (step, h) (s .shown) }
+
+  pub spreading-end : (sets : List ℕ) (i : ℕ) → Spreading cs ns n k sets i → i ≤ 0 → Spreads sets (chosen (held cs ns n) k)
+  spreading-end sets i s l =
+      let e : i ≡ 0 = omega arith in
+      let z : k / 2 ^ 0 ≡ k = (let y : k / 1 ≡ k = omega arith in y) in
+      record {
+        eight = s .eight;
+        narrow = s .narrow;
+        shows = subst (λ (x : ℕ). Shows sets (chosen (held cs ns n) x)) z (subst (λ (x : ℕ). Shows sets (chosen (drop x (held cs ns n)) (k / 2 ^ x))) e (s .shown));
+      }
+
+-- a class counts if it is not present, or its set is not empty
+module _ (present : ℕ) (sets : List ℕ) where
+  abbrev pub counted : ℕ → Bool
+  counted i = not (has present i) || not (eqb (getD sets i 0) 0)
+
+  pub empty-one : (i : ℕ) → i < 8 → (eqb (bitAnd (present / 2 ^ i) 1) 1 && eqb (getD sets i 0) 0) ≡ true → counts-on present sets ≡ false
+  unfolding counts-on
+  empty-one i l t = each-broken 8 i counted l (go (has present i) (eqb (getD sets i 0) 0) (rw (shifted present i) at t))
+    where
+      go : (a b : Bool) → (a && b) ≡ true → (not a || not b) ≡ false
+      go true true h = refl
+      go true false h = absurd (true-not-false h refl)
+      go false b h = absurd (true-not-false h refl)
+
+  pub counted-one : (i : ℕ) → each i counted ≡ true → (eqb (bitAnd (present / 2 ^ i) 1) 1 && eqb (getD sets i 0) 0) ≡ false → each (i + 1) counted ≡ true
+  counted-one i h t = each-so-far i counted h (go (has present i) (eqb (getD sets i 0) 0) (rw (shifted present i) at t))
+    where
+      go : (a b : Bool) → (a && b) ≡ false → (not a || not b) ≡ true
+      go true true h = sym h
+      go true false h = refl
+      go false b h = refl
+
+  pub counted-all : (i : ℕ) → i ≤ 8 → 8 ≤ i → each i counted ≡ true → counts-on present sets ≡ true
+  unfolding counts-on
+  counted-all i l m h = each-all 8 i counted l m h

@@ -1,0 +1,119 @@
+-- Laws about the table of moves: it is filled by the phase's turns, one for each state.
+-- Assumes nothing.
+use Prim.Native.Nat.{ℕ, zero, suc, _+_, _<_, _≤_}
+use native.Mathlib.Omega.{arith}
+use mathlib.Core.Path.{_≡_, refl, sym, ap, _∙_}
+use mathlib.Core.List.{List}
+use mathlib.Core.Logic.{_⊎_, inl, inr}
+use mathlib.Core.Option.{none, some}
+use lib.ListN.{length, getD, set, replicate, length-set}
+use lib.Seq.{getD-set-same, getD-set-other}
+use Rattle.model.specs.Words.{maybe}
+use Rattle.model.specs.Tree.{Child, When, State}
+use Rattle.model.specs.Node.{own-states, first-true, probe, turn-for, Turn, stops, moves, turn, moved, next, settled, by-turn, walk, phase, moves-of}
+use Rattle.model.specs.declared.OwnState.{OwnState}
+use Rattle.model.proofs.Words.{lt-or-le}
+use Rattle.model.proofs.Phase.{stops-next, moves-next, next-within}
+use Rattle.bodies.specs.Bytes.{Bytes}
+use Rattle.sheet.specs.Contents.{body, bodies}
+use Rattle.bodies.specs.Clauses.{in-fours}
+use Rattle.sheet.specs.Reading.{class-of}
+use Rattle.sheet.specs.Judgement.{Stands}
+use Rattle.sheet.specs.declared.judging.Places.{Places}
+use Rattle.sheet.proofs.Contents.{counted}
+use Rattle.sheet.proofs.Reading.{own-states-in, state-of-past}
+use Rattle.sheet.proofs.ReaderLaws.{stands-right}
+use Rattle.sheet.proofs.Sound.{sound}
+use Rattle.node.specs.Probing.{Crewed, ending-as, turn-as, Turns}
+use Rattle.node.specs.declared.probing.Ending.{Ending}
+use Rattle.node.specs.declared.probing.Turn.{Turn as Taken}
+use Rattle.node.specs.declared.probing.Turn.the-variants.{Stops, Moves}
+use Rattle.loops.specs.Chase.{leads, table-next, MovesTo, Tabulates, move-count}
+use Rattle.loops.proofs.WalkLaws.{leads-there}
+
+-- the moves that a phase makes
+pub moves-walked : (b : List ℕ) (ks : List Child) (n q m : ℕ) → moves-of (walk (class-of b) ks n q m) ≡ m + move-count (next (class-of b) ks) n q
+unfolding walk move-count
+moves-walked b ks zero q m = omega arith
+moves-walked b ks (suc n) q m = go (turn (class-of b) ks q) refl (λ t. moves-walked b ks n t (m + 1))
+  where
+    go : (t : Turn) → turn (class-of b) ks q ≡ t → ((t : ℕ) → moves-of (walk (class-of b) ks n t (m + 1)) ≡ m + 1 + move-count (next (class-of b) ks) n t)
+        → moves-of (by-turn t (λ e. settled e q m) (λ t. walk (class-of b) ks n t (m + 1))) ≡ m + maybe (next (class-of b) ks q) (λ _. 0) (λ t. suc (move-count (next (class-of b) ks) n t))
+    go (stops e) p h = rw (stops-next (class-of b) ks q e p) (let z : m ≡ m + 0 = omega arith in z)
+    go (moves t) p h = rw (moves-next (class-of b) ks q t p) (let x = h t in let z : moves-of (walk (class-of b) ks n t (m + 1)) ≡ m + suc (move-count (next (class-of b) ks) n t) = omega arith in z)
+
+pub phase-moves : (b : List ℕ) (ks : List Child) (q : ℕ) → moves-of (phase (class-of b) ks q) ≡ move-count (next (class-of b) ks) (own-states (class-of b)) q
+unfolding phase
+phase-moves b ks q = let x = moves-walked b ks (own-states (class-of b)) q 0 in omega arith
+
+module _ (b : List ℕ) (p : Places) (stands : Stands b p) where
+  pub states-are : own-states (class-of b) ≡ in-fours (body b 1)
+  unfolding class-of bodies
+  states-are = own-states-in (bodies b)
+
+  states-most : in-fours (body b 1) ≤ 32
+  unfolding bodies
+  states-most = counted b (stands-right b p stands) .states-most
+
+  -- past the last state no move is made
+  none-past : (ks : List Child) (q : ℕ) → in-fours (body b 1) ≤ q → next (class-of b) ks q ≡ none
+  unfolding next turn probe first-true turn-for class-of bodies
+  none-past ks q l =
+      ap (λ (ws : List When). moved (turn-for (class-of b) q (first-true ks 0 ws))) (ap (λ (x : State). x .whens) (state-of-past (bodies b) q l))
+
+  -- the byte for a turn
+  module _ (sets : List ℕ) (q : ℕ) (r : Taken) (h : Turns b sets q r) where
+    pub moves-byte : Bytes b → (t : OwnState) → r ≡ Moves t → MovesTo b sets q (t .0)
+    moves-byte bytes t e ks crewed =
+        let n : next (class-of b) ks q ≡ some (t .0) = moves-next (class-of b) ks q (t .0) (sym (h ks crewed) ∙ ap turn-as e) in
+        let l : t .0 < own-states (class-of b) = next-within (class-of b) ks (sound b bytes (stands .accepted)) q (t .0) n in
+        leads-there (t .0) (λ z. let x = states-are in let y = states-most in omega arith) ∙ sym n
+
+    pub stops-byte : (t : Ending) → r ≡ Stops t → MovesTo b sets q 255
+    stops-byte t e ks crewed = sym (stops-next (class-of b) ks q (ending-as t) (sym (h ks crewed) ∙ ap turn-as e))
+
+-- the table of the first q states
+pub record Tabulating (b sets to : List ℕ) (q : ℕ) : Type 0 where
+  pub table : length to ≡ 32
+  pub filled : (ks : List Child) → Crewed sets ks → (j : ℕ) → j < q → table-next to j ≡ next (class-of b) ks j
+  pub rest : (j : ℕ) → q ≤ j → table-next to j ≡ none
+
+no-moves : (n j : ℕ) → getD {A = ℕ} (replicate n 255) j 255 ≡ 255
+no-moves zero j = refl
+no-moves (suc n) zero = refl
+no-moves (suc n) (suc j) = no-moves n j
+
+-- a store in the table
+stored : (to : List ℕ) (i r : ℕ) → i < length to → table-next (set to i r) i ≡ leads r
+unfolding table-next
+stored to i r l = ap leads (getD-set-same to i r 255 l)
+
+kept-there : (to : List ℕ) (i r j : ℕ) → (j ≡ i → ⊥) → table-next (set to i r) j ≡ table-next to j
+unfolding table-next
+kept-there to i r j h = ap leads (getD-set-other to i j r 255 h)
+
+module _ (b sets : List ℕ) where
+  pub tabulating-start : Tabulating b sets (replicate 32 255) 0
+  unfolding table-next
+  tabulating-start = record { table = refl; filled = λ ks crewed j l. absurd (omega arith); rest = λ j l. ap leads (no-moves 32 j) }
+
+  pub tabulating-more : (to : List ℕ) (q r : ℕ) → Tabulating b sets to q → q < 32 → MovesTo b sets q r → Tabulating b sets (set to q r) (q + 1)
+  tabulating-more to q r t l m =
+      record {
+        table = length-set to q r ∙ t .table;
+        filled = λ ks crewed j u. at ks crewed j u (lt-or-le j q);
+        rest = λ j u. kept-there to q r j (λ e. omega arith) ∙ t .rest j (omega arith);
+      }
+    where
+      at : (ks : List Child) → Crewed sets ks → (j : ℕ) → j < q + 1 → (j < q) ⊎ (q ≤ j) → table-next (set to q r) j ≡ next (class-of b) ks j
+      at ks crewed j u (inl v) = kept-there to q r j (λ e. omega arith) ∙ t .filled ks crewed j v
+      at ks crewed j u (inr v) =
+          let e : j ≡ q = omega arith in
+          rw e (stored to q r (let x = t .table in omega arith) ∙ m ks crewed)
+
+  pub tabulating-end : (p : Places) → Stands b p → (to : List ℕ) (q n : ℕ) → Tabulating b sets to q → n ≡ in-fours (body b 1) → n ≤ q → Tabulates b sets (record { to = to })
+  tabulating-end p stands to q n t e l ks crewed j = at (lt-or-le j q)
+    where
+      at : (j < q) ⊎ (q ≤ j) → table-next to j ≡ next (class-of b) ks j
+      at (inl u) = t .filled ks crewed j u
+      at (inr u) = t .rest j u ∙ sym (none-past b p stands ks j (omega arith))
