@@ -1,4 +1,5 @@
 pub mod Computing
+pub mod PromiseLaws
 pub mod Cases
 pub mod Demand3
 pub mod FaceLaws
