@@ -1,4 +1,4 @@
--- Laws of specs/Promises.antt: one promise for all five questions, and the checks of the table against the rules.
+-- Laws of specs/Promises.antt: one promise for all five questions, and the one answer that each leaves.
 -- Assumes nothing.
 use Prim.Native.Nat.{ℕ}
 use mathlib.Core.Path.{_≡_, refl, sym, _∙_}
@@ -11,8 +11,9 @@ use Rattle.sheet.specs.Rules.{refusal}
 use Rattle.sheet.specs.Reading.{class-of}
 use Rattle.sheet.specs.ChildList.{list-right}
 use Rattle.bargewicker.specs.Questions.{Question, judge, probe-in, phase-from, command-in, loop-with, Answer, Reply, refuse, give, check, judged, placed, reply, lent, buffer-after}
-use Rattle.bargewicker.specs.Numbers.{Answered}
+use Rattle.bargewicker.specs.Numbers.{numbers, Answered}
 use Rattle.bargewicker.specs.Promises.{AnswerTo, numbers-of, Promised}
+use Rattle.bargewicker.proofs.Unique.{unique}
 
 -- what gives no bytes leaves no buffer where none is lent
 judged-silent : (b : List ℕ) (rest : Class → Reply) → buffer-after (rest (class-of b)) [] ≡ [] → buffer-after (judged b rest) [] ≡ []
@@ -40,3 +41,11 @@ answered-by (probe-in b l q) r after h = record { numbers-are = h .0; buffer-is 
 answered-by (phase-from b l q) r after h = record { numbers-are = h .0; buffer-is = h .1 ∙ sym (placed-silent b l q _) }
 answered-by (command-in b l q m out) r after h = h
 answered-by (loop-with b present out) r after h = h
+
+-- two answers that have the numbers of a question are equal
+pub only-answer : (q : Question) (r s : AnswerTo q) → numbers-of q r ≡ numbers (reply q) → numbers-of q s ≡ numbers (reply q) → r ≡ s
+only-answer (judge b) r s f g = unique .judging b r s f g
+only-answer (probe-in b l q) r s f g = unique .probing b l q r s f g
+only-answer (phase-from b l q) r s f g = unique .phasing b l q r s f g
+only-answer (command-in b l q m out) r s f g = unique .commanding b l q m out r s _ _ (record { numbers-are = f; buffer-is = refl }) (record { numbers-are = g; buffer-is = refl }) .0
+only-answer (loop-with b present out) r s f g = unique .looping b present out r s _ _ (record { numbers-are = f; buffer-is = refl }) (record { numbers-are = g; buffer-is = refl }) .0

@@ -5,5 +5,5 @@ pub mod Answers
 pub mod Promises
 pub mod Cases
 pub mod Table
-pub mod Demand3
+pub mod Demands
 pub mod Unique
