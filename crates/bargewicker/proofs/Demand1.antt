@@ -4,14 +4,18 @@ use Prim.Native.Nat.{ℕ}
 use native.Mathlib.Omega.{arith}
 use mathlib.Core.Path.{_≡_, refl, sym, _∙_, ap}
 use mathlib.Core.List.{List, [], _∷_}
+use mathlib.Core.Logic.{_↔_}
 use lib.ListN.{getD}
 use Rattle.model.specs.Refusals.{number-of}
 use Rattle.model.specs.declared.Refusal.{Refusal}
-use Rattle.bargewicker.specs.Questions.{Question, judge, probe-in, phase-from, command-in, loop-with, Reply, refuse, give, reply, lent, buffer-after}
-use Rattle.bargewicker.specs.Numbers.{numbers, Answered}
+use Rattle.model.proofs.Words.{clash}
+use Rattle.sheet.specs.Rules.{Accepted}
+use Rattle.bargewicker.specs.Questions.{Question, judge, probe-in, phase-from, command-in, loop-with, accepted, Reply, refuse, give, reply, lent, buffer-after}
+use Rattle.bargewicker.specs.Numbers.{numbers, values, Answered}
 use Rattle.bargewicker.specs.Promises.{AnswerTo, refusing, numbers-of, Promised}
 use Rattle.bargewicker.specs.Table.{first-failed, table}
 use Rattle.bargewicker.specs.Demands.{Demand1}
+use Rattle.bargewicker.specs.declared.Judgement.{Judgement}
 use Rattle.bargewicker.specs.declared.Judgement.the-variants as J
 use Rattle.bargewicker.specs.declared.ProbeAnswer.the-variants as P
 use Rattle.bargewicker.specs.declared.PhaseAnswer.the-variants as W
@@ -19,7 +23,8 @@ use Rattle.bargewicker.specs.declared.CommandAnswer.the-variants as C
 use Rattle.bargewicker.specs.declared.LoopAnswer.the-variants as L
 use Rattle.bargewicker.proofs.AskedLaws.{numbered}
 use Rattle.bargewicker.proofs.PromiseLaws.{answered-by, only-answer}
-use Rattle.bargewicker.proofs.TableLaws.{refused-number, failed}
+use Rattle.bargewicker.proofs.FaceLaws.{asked}
+use Rattle.bargewicker.proofs.TableLaws.{refused-number, sheet-failed, failed}
 
 -- the first of an answer's numbers: its refusal, or 0
 abbrev first : List ℕ → ℕ
@@ -60,9 +65,9 @@ is-refused : (p : Reply) (x : Refusal) → refused-number p ≡ number-of x → 
 is-refused (refuse n) x e = ap refuse e
 is-refused (give a bytes) x e = absurd (let n = numbered x in omega arith)
 
-module _ (q : Question) (r : AnswerTo q) (left : List ℕ) (h : Promised q r left) where
+module _ (q : Question) (r : AnswerTo q) (final : List ℕ) (h : Promised q r final) where
   begins : first (numbers-of q r) ≡ first-failed (table q)
-  begins = ap first (answered-by q r left h .numbers-are) ∙ reply-first (reply q) ∙ failed q
+  begins = ap first (answered-by q r final h .numbers-are) ∙ reply-first (reply q) ∙ failed q
 
   if-refused : (x : Refusal) → r ≡ refusing q x → first-failed (table q) ≡ number-of x
   if-refused x e = sym begins ∙ ap (λ (s : AnswerTo q). first (numbers-of q s)) e ∙ ap first (refusing-numbers q x)
@@ -72,12 +77,20 @@ module _ (q : Question) (r : AnswerTo q) (left : List ℕ) (h : Promised q r lef
 
   refused-if : (x : Refusal) → first-failed (table q) ≡ number-of x → r ≡ refusing q x
   unfolding numbers
-  refused-if x e = only-answer q r (refusing q x) (answered-by q r left h .numbers-are) (refusing-numbers q x ∙ ap numbers (sym (refuses x e)))
+  refused-if x e = only-answer q r (refusing q x) (answered-by q r final h .numbers-are) (refusing-numbers q x ∙ ap numbers (sym (refuses x e)))
 
-  pub demand-1 : Demand1 q r left
+  pub demand-1 : Demand1 q r final
   demand-1 =
       record {
         refused = λ x. (if-refused x, refused-if x);
         answered = ((λ none. sym begins ∙ no-refusal q r none), λ z x e. let f = if-refused x e in let n = numbered x in omega arith);
-        untouched = λ x e. answered-by q r left h .buffer-is ∙ ap (λ (p : Reply). buffer-after p (lent q)) (refuses x (if-refused x e));
+        untouched = λ x e. answered-by q r final h .buffer-is ∙ ap (λ (p : Reply). buffer-after p (lent q)) (refuses x (if-refused x e));
       }
+
+-- the judge accepts exactly the sheets that get no refusal
+pub accepted-exactly : (b : List ℕ) (r : Judgement) (final : List ℕ) → Promised (judge b) r final → (r ≡ J.Accepted) ↔ Accepted b
+unfolding reply numbers values table
+accepted-exactly b r final h = (
+  (λ e. sheet-failed b ∙ demand-1 (judge b) r final h .answered .0 (λ x f. absurd (clash (cc (sym e ∙ f))))),
+  λ a. only-answer (judge b) r J.Accepted (h .0) (sym (ap numbers (asked b (λ c. give accepted []) a))),
+)

@@ -144,9 +144,9 @@ module _ (b l : List ℕ) (q : ℕ) (a : Asked b l q) where
   fits : (rest : Class → Reply) → placed b l q rest ≡ rest (class-of b)
   fits rest = is-placed b (a .accepted) l q rest not-refused
 
-  pub probe-right : (r : ProbeAnswer) (left : List ℕ) → Promised (probe-in b l q) r left → ProbeRight (class-of b) (children-of l) q r
+  pub probe-right : (r : ProbeAnswer) (final : List ℕ) → Promised (probe-in b l q) r final → ProbeRight (class-of b) (children-of l) q r
   unfolding as-read
-  probe-right r left h = go (probe (class-of b) (children-of l) q) refl
+  probe-right r final h = go (probe (class-of b) (children-of l) q) refl
     where
       told : (s : ProbeAnswer) (p : Probed) → probe (class-of b) (children-of l) q ≡ p → probe-numbers s ≡ 0 ∷ probed-numbers p
           → ProbeRight (class-of b) (children-of l) q s → ProbeRight (class-of b) (children-of l) q r
@@ -158,9 +158,9 @@ module _ (b l : List ℕ) (q : ℕ) (a : Asked b l q) where
           told (P.Clause i (as-read x)) (found i x) e (ap (λ (y : TreeReferrer). 0 ∷ 1 ∷ i ∷ referrer-numbers y) (reads-back x))
           (subst (First (class-of b) (children-of l) q i) (sym (reads-back x)) (first-found (class-of b) (children-of l) q i x e))
 
-  pub phase-right : (r : PhaseAnswer) (left : List ℕ) → Promised (phase-from b l q) r left → PhaseRight (class-of b) (children-of l) q r
+  pub phase-right : (r : PhaseAnswer) (final : List ℕ) → Promised (phase-from b l q) r final → PhaseRight (class-of b) (children-of l) q r
   unfolding own
-  phase-right r left h = go (phase (class-of b) (children-of l) q) refl
+  phase-right r final h = go (phase (class-of b) (children-of l) q) refl
     where
       told : (s : PhaseAnswer) (p : Phase) → phase (class-of b) (children-of l) q ≡ p → phase-answer-numbers s ≡ 0 ∷ phase-numbers p
           → PhaseRight (class-of b) (children-of l) q s → PhaseRight (class-of b) (children-of l) q r
@@ -176,19 +176,19 @@ module _ (b l : List ℕ) (q : ℕ) (a : Asked b l q) where
           told (W.Loops (own s) m) (loops s m) e refl
           (loops-never (class-of b) (children-of l) (sound b (a .bytes) (a .accepted)) q (a .state) s m e, u, (rw u t))
 
-  module _ (m : ℕ) (out : List ℕ) (small : m ≤ 63) (r : CommandAnswer) (left : List ℕ) (h : Answered (command-in b l q m out) (command-numbers r) left) where
+  module _ (m : ℕ) (out : List ℕ) (small : m ≤ 63) (r : CommandAnswer) (final : List ℕ) (h : Answered (command-in b l q m out) (command-numbers r) final) where
     -- the answer and the buffer are those that the rules give
     told-command : (s : CommandAnswer) (after : List ℕ) → Answered (command-in b l q m out) (command-numbers s) after
-        → (left ≡ after → CommandRight (class-of b) (children-of l) q m out left s) → CommandRight (class-of b) (children-of l) q m out left r
+        → (final ≡ after → CommandRight (class-of b) (children-of l) q m out final s) → CommandRight (class-of b) (children-of l) q m out final r
     told-command s after g f =
-        let (e, k) = unique .commanding b l q m out r s left after h g in
-        subst (CommandRight (class-of b) (children-of l) q m out left) (sym e) (f k)
+        let (e, k) = unique .commanding b l q m out r s final after h g in
+        subst (CommandRight (class-of b) (children-of l) q m out final) (sym e) (f k)
 
-    pub command-right : CommandRight (class-of b) (children-of l) q m out left r
+    pub command-right : CommandRight (class-of b) (children-of l) q m out final r
     unfolding own
     command-right = go (clause-for m (state-of (class-of b) q .actions)) refl
       where
-        go : (o : Option Part) → clause-for m (state-of (class-of b) q .actions) ≡ o → CommandRight (class-of b) (children-of l) q m out left r
+        go : (o : Option Part) → clause-for m (state-of (class-of b) q .actions) ≡ o → CommandRight (class-of b) (children-of l) q m out final r
         go none e =
             told-command (C.Ignored (own q)) out (answer-ignored b l q m out fits small q (command-none (class-of b) (children-of l) q m e) out refl)
             λ k. (e, refl, k)
@@ -203,7 +203,7 @@ module _ (b l : List ℕ) (q : ℕ) (a : Asked b l q) where
             runs : command (class-of b) (children-of l) q m ≡ handled sent to
             runs = command-some (class-of b) (children-of l) q m p e
 
-            by : (length out < 3 * length sent) ⊎ (3 * length sent ≤ length out) → CommandRight (class-of b) (children-of l) q m out left r
+            by : (length out < 3 * length sent) ⊎ (3 * length sent ≤ length out) → CommandRight (class-of b) (children-of l) q m out final r
             by (inl short) =
                 let n = sent-length sent in
                 told-command (C.Refused Room) out (answer-short b l q m out fits small sent to runs (let w : length out < length (sent-bytes sent) = omega arith in w) out refl)

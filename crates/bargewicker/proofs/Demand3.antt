@@ -27,22 +27,22 @@ use Rattle.bargewicker.proofs.Unique.{unique}
 
 module _ (b : List ℕ) (present : ℕ) (out : List ℕ) (bytes : Bytes b) (accepted : Accepted b) (right : present-right (class-of b) present ≡ true)
     (few : name-count (class-of b) present ≤ 20) (room : 2 * name-count (class-of b) present ≤ length out)
-    (r : LoopAnswer) (left : List ℕ) (h : Answered (loop-with b present out) (loop-answer-numbers r) left) where
-  pub demand-3 : Demand3 (class-of b) present out left r
+    (r : LoopAnswer) (final : List ℕ) (h : Answered (loop-with b present out) (loop-answer-numbers r) final) where
+  pub demand-3 : Demand3 (class-of b) present out final r
   demand-3 = go (loop-answer (class-of b) present) refl (demanded (class-of b) (sound b bytes accepted) present)
     where
-      go : (a : Loops) → loop-answer (class-of b) present ≡ a → Demanded (class-of b) present a → Demand3 (class-of b) present out left r
+      go : (a : Loops) → loop-answer (class-of b) present ≡ a → Demanded (class-of b) present a → Demand3 (class-of b) present out final r
       go (free m) e D =
-          let (f, g) = unique .looping b present out r (L.Free m) left out h (answer-free b accepted present out right few room m (sym e) out refl) in
+          let (f, g) = unique .looping b present out r (L.Free m) final out h (answer-free b accepted present out right few room m (sym e) out refl) in
           record {
             free-exactly-if = ((λ _. D .free-exactly-if .0 refl), λ _. (m, f));
-            right = subst (LoopsRight (class-of b) present out left) (sym f) (D .right, g);
+            right = subst (LoopsRight (class-of b) present out final) (sym f) (D .right, g);
           }
       go (loop k q ks) e D =
           let list : ks ≡ list-of (class-of b) present k = D .right .list in
           let after : List ℕ = written (pairs (list-of (class-of b) present k)) out in
-          let (f, g) = unique .looping b present out r (L.Loop k (record { 0 = q })) left after h (answer-loop b accepted present out right few room k q (sym (e ∙ ap (loop k q) list)) after refl) in
+          let (f, g) = unique .looping b present out r (L.Loop k (record { 0 = q })) final after h (answer-loop b accepted present out right few room k q (sym (e ∙ ap (loop k q) list)) after refl) in
           record {
             free-exactly-if = ((λ (m, z). absurd (clash (cc (sym f ∙ z)))), λ all. absurd (clash (cc (D .free-exactly-if .1 all))));
-            right = subst (LoopsRight (class-of b) present out left) (sym f) (ks, D .right, g ∙ ap (λ (x : List Child). written (pairs x) out) (sym list));
+            right = subst (LoopsRight (class-of b) present out final) (sym f) (ks, D .right, g ∙ ap (λ (x : List Child). written (pairs x) out) (sym list));
           }

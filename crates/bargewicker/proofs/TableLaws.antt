@@ -46,7 +46,7 @@ first-of-both (c ∷ cs) ds h = go (c .passed) (first-of-both cs ds (and-right (
         rw (ne-eqb (c .number) 0 (λ z. let w : c .number ≡ 0 = z in omega arith))
 
 -- the sheet's refusal is the first of its checks that is not passed
-sheet-failed : (b : List ℕ) → refusal b ≡ first-failed (sheet-checks b)
+pub sheet-failed : (b : List ℕ) → refusal b ≡ first-failed (sheet-checks b)
 unfolding refusal refusal-in sheet-checks body-checks first-failed
 sheet-failed b = refl
 
