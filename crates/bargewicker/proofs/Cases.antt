@@ -3,7 +3,7 @@
 use mathlib.Core.Path.{_≡_, refl, sym, _∙_, ap}
 use mathlib.Core.List.{List, [], _∷_, map, List·Memᴰ, List·Memᴰ·not-nil, List·Memᴰ·cases-cons, head-eq-of-cons-eq, tail-eq-of-cons-eq}
 use mathlib.Core.Logic.{_⊎_, inl, inr}
-use Rattle.bargewicker.specs.Cases.{Case, cases, given, Worked, Holds, CasesHold}
+use Rattle.bargewicker.specs.Cases.{Case, cases, given, Worked, CasesHold}
 use Rattle.bargewicker.proofs.PromiseLaws.{answered-by}
 use Rattle.bargewicker.proofs.Computing.{computing}
 

@@ -11,7 +11,7 @@ use Rattle.model.specs.declared.Refusal.{Refusal}
 use Rattle.model.proofs.Words.{clash}
 use Rattle.sheet.specs.Rules.{Accepted}
 use Rattle.bargewicker.specs.Questions.{Question, judge, probe-in, phase-from, command-in, loop-with, accepted, Reply, refuse, give, reply, lent, buffer-after}
-use Rattle.bargewicker.specs.Numbers.{numbers, values, Answered}
+use Rattle.bargewicker.specs.Numbers.{numbers, values}
 use Rattle.bargewicker.specs.Promises.{AnswerTo, refusing, numbers-of, Promised}
 use Rattle.bargewicker.specs.Table.{first-failed, table}
 use Rattle.bargewicker.specs.Demands.{Demand1}

@@ -10,7 +10,7 @@ use lib.ListN.{length, drop}
 use borrow.Author.Tests.{lt-ltb}
 use Rattle.model.specs.Words.{maybe}
 use Rattle.model.specs.Tree.{Child, Referrer as TreeReferrer, move-to, run, stay, Part, Class}
-use Rattle.model.specs.Node.{own-states, state-of, Probed, nothing, found, probe, Ending as TreeEnding, by-none, by-stay, by-do, stops, moves, command-of, turn-for, turn, moved, next, Phase, settled, loops, phase}
+use Rattle.model.specs.Node.{own-states, state-of, Probed, nothing, found, probe, Ending as TreeEnding, by-none, by-stay, by-do, stops, command-of, turn-for, turn, moved, next, Phase, settled, loops, phase}
 use Rattle.model.specs.Commands.{Sent, handled, ignored, run-part, clause-for, command}
 use Rattle.model.specs.Sound.{Sound, ReferrerRight}
 use Rattle.model.specs.declared.OwnState.{OwnState}

@@ -10,7 +10,7 @@ use Rattle.model.specs.Node.{own-states}
 use Rattle.sheet.specs.Rules.{refusal}
 use Rattle.sheet.specs.Reading.{class-of}
 use Rattle.sheet.specs.ChildList.{list-right}
-use Rattle.bargewicker.specs.Questions.{Question, judge, probe-in, phase-from, command-in, loop-with, Answer, Reply, refuse, give, check, judged, placed, reply, lent, buffer-after}
+use Rattle.bargewicker.specs.Questions.{Question, judge, probe-in, phase-from, command-in, loop-with, Answer, Reply, give, check, judged, placed, reply, buffer-after}
 use Rattle.bargewicker.specs.Numbers.{numbers, Answered}
 use Rattle.bargewicker.specs.Promises.{AnswerTo, numbers-of, Promised}
 use Rattle.bargewicker.proofs.Unique.{unique}
