@@ -3,7 +3,8 @@
 use mathlib.Core.Path.{_≡_, refl, sym, _∙_, ap}
 use mathlib.Core.List.{List, [], _∷_, map, List·Memᴰ, List·Memᴰ·not-nil, List·Memᴰ·cases-cons, head-eq-of-cons-eq, tail-eq-of-cons-eq}
 use mathlib.Core.Logic.{_⊎_, inl, inr}
-use Rattle.bargewicker.specs.Cases.{Case, cases, given, Worked, Holds}
+use Rattle.bargewicker.specs.Cases.{Case, cases, given, Worked, CasesHold}
+use Rattle.bargewicker.proofs.PromiseLaws.{answered-by}
 use Rattle.bargewicker.proofs.Computing.{computing}
 
 pub worked : Worked
@@ -19,9 +20,10 @@ fixed f (y ∷ ys) e x m = go (List·Memᴰ·cases-cons m) (fixed f ys (tail-eq-
     go (inl p) r = ap f p ∙ head-eq-of-cons-eq e ∙ sym p
     go (inr n) r = r n
 
--- each case of the table holds
-pub case-holds : (e : Case) → List·Memᴰ e cases → Holds e
+-- every case of the table holds of whatever meets the promise of the face
+pub cases-hold : CasesHold
 unfolding given
-case-holds e m =
+cases-hold e m r after h =
     let p : given e ≡ e = fixed given cases worked e m in
-    record { numbers-are = ap (λ (x : Case). x .answer) p; buffer-is = ap (λ (x : Case). x .buffer) p }
+    let a = answered-by (e .question) r after h in
+    record { numbers-are = a .numbers-are ∙ ap (λ (x : Case). x .answer) p; buffer-is = a .buffer-is ∙ ap (λ (x : Case). x .buffer) p }

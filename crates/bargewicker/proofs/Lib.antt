@@ -1,6 +1,7 @@
 pub mod Computing
+pub mod PromiseLaws
+pub mod TableLaws
 pub mod Cases
-pub mod Demand3
 pub mod FaceLaws
 pub mod AskedLaws
 pub mod BufferLaws
@@ -8,3 +9,7 @@ pub mod HandlingLaws
 pub mod PresentLaws
 pub mod LoopLaws
 pub mod Unique
+pub mod Demand1
+pub mod Demand2
+pub mod Demand3
+pub mod Demands

@@ -2,10 +2,11 @@
 -- Assumes nothing.
 use Prim.Native.Nat.{ℕ}
 use mathlib.Core.Path.{_≡_}
-use mathlib.Core.List.{List, [], _∷_, map}
+use mathlib.Core.List.{List, [], _∷_, map, List·Memᴰ}
 use lib.ListN.{set}
 use Rattle.bargewicker.specs.Questions.{Question, phase-from, command-in, loop-with, reply, lent, buffer-after}
 use Rattle.bargewicker.specs.Numbers.{numbers}
+use Rattle.bargewicker.specs.Promises.{AnswerTo, numbers-of, Promised}
 
 -- heaters (COLD 0, HOT 1, FAULT 2); READY 0: any heater not in HOT, move to HOLD; HOLD 1: any in HOT, move to READY
 abbrev pub sheet-A : List ℕ
@@ -91,7 +92,11 @@ given e = asks (e .question) (numbers (reply (e .question))) (buffer-after (repl
 abbrev pub Worked : Type 0
 Worked = map given cases ≡ cases
 
--- a case holds: the answer's numbers and the buffer afterwards are those of the rules
-pub record Holds (e : Case) : Type 0 where
-  pub numbers-are : numbers (reply (e .question)) ≡ e .answer
-  pub buffer-is : buffer-after (reply (e .question)) (lent (e .question)) ≡ e .buffer
+-- a case holds of the face: whatever meets the promise for its question has its numbers and leaves its buffer
+pub record Holds (e : Case) (r : AnswerTo (e .question)) (after : List ℕ) : Type 0 where
+  pub numbers-are : numbers-of (e .question) r ≡ e .answer
+  pub buffer-is : after ≡ e .buffer
+
+-- and so does every case of the table
+abbrev pub CasesHold : Type 0
+CasesHold = (e : Case) → List·Memᴰ e cases → (r : AnswerTo (e .question)) (after : List ℕ) → Promised (e .question) r after → Holds e r after

@@ -1,7 +1,9 @@
 pub mod Questions
 pub mod Numbers
 pub mod Placing
-pub mod Cases
 pub mod Answers
-pub mod Demand3
+pub mod Promises
+pub mod Cases
+pub mod Table
+pub mod Demands
 pub mod Unique

@@ -1,0 +1,96 @@
+-- The paper's table of refusals: the checks that each question meets, in order. The words above a rule say when it is broken.
+-- Assumes nothing.
+use Prim.Native.Nat.{ℕ, _*_}
+use mathlib.Core.Bool.{Bool}
+use mathlib.Core.List.{List, [], _∷_, _++_}
+use lib.Dec.{leb, ltb}
+use lib.ListN.{length}
+use Rattle.model.specs.Words.{choose}
+use Rattle.model.specs.Tree.{Class}
+use Rattle.model.specs.Node.{own-states}
+use Rattle.model.specs.Commands.{Sent, Handling, handled, ignored, command}
+use Rattle.bodies.specs.Clauses.{in-fours, in-eights}
+use Rattle.bodies.specs.BodyRules.{classes-right, counts-right, records-right, guards-right, targets-right, actions-right, statements-right}
+use Rattle.sheet.specs.Contents.{Bodies, bodies, length-right, contents-right}
+use Rattle.sheet.specs.Reading.{class-of}
+use Rattle.sheet.specs.ChildList.{children-of, list-right}
+use Rattle.loops.specs.Configurations.{name-count}
+use Rattle.bargewicker.specs.Questions.{Question, judge, probe-in, phase-from, command-in, loop-with, present-right}
+
+-- a check: its number in the table, and whether the input passes it
+pub record Check : Type 0 where
+  pub number : ℕ
+  pub passed : Bool
+
+abbrev pub rule : ℕ → Bool → Check
+rule n ok = record { number = n; passed = ok }
+
+-- the number of the first check that is not passed; 0 where all are
+unfoldable pub first-failed : List Check → ℕ
+first-failed [] = 0
+first-failed (c ∷ rest) = choose (c .passed) (λ _. first-failed rest) (λ _. c .number)
+
+-- the sheet's bodies
+unfoldable pub body-checks : Bodies → List Check
+body-checks s =
+    -- a child class with an empty set
+    rule 3 (classes-right (s .classes)) ∷
+    -- when or action counts of the states do not sum to W or A
+    rule 4 (counts-right (s .states) (in-fours (s .whens)) (in-fours (s .actions))) ∷
+    -- a guard record breaks its layout
+    rule 5 (records-right (in-fours (s .classes)) (s .guards)) ∷
+    -- a when clause's guard begins past the end, runs past it, or is too deep
+    rule 6 (guards-right (s .guards) (s .whens)) ∷
+    -- referrer over 2 or a wrong target
+    rule 7 (targets-right (s .states) (s .whens)) ∷
+    -- action clause: command, zero byte, repeat in a state, statement counts not summing to T
+    rule 8 (actions-right (s .states) (s .actions) (in-eights (s .statements))) ∷
+    -- a statement breaks its layout, its part or depth, or an if's guard breaks rule 6
+    rule 9 (statements-right (in-fours (s .classes)) (in-fours (s .states)) (s .guards) (s .actions) (s .statements)) ∷ []
+
+-- the sheet
+unfoldable pub sheet-checks : List ℕ → List Check
+sheet-checks b =
+    -- sheet under 24 or over 18,616 bytes
+    rule 1 (length-right b) ∷
+    -- contents: starts, end, a length that is no whole number of records, a count outside the table
+    rule 2 (contents-right b) ∷ body-checks (bodies b)
+
+-- the child list and the asked state
+unfoldable pub place-checks : Class → List ℕ → ℕ → List Check
+place-checks c l q =
+    -- child list odd, over 4,096 children, class not below K, name not in its class
+    rule 10 (list-right c l) ∷
+    -- asked state not below S
+    rule 11 (ltb q (own-states c)) ∷ []
+
+-- the commands that a handling sends
+abbrev pub sent-by : Handling → List Sent
+sent-by (handled sent q) = sent
+sent-by (ignored q) = []
+
+-- the asked command, and the room for what it sends
+unfoldable pub command-checks : Class → List ℕ → ℕ → ℕ → List ℕ → List Check
+command-checks c l q m out =
+    -- asked command over 63
+    rule 12 (leb m 63) ∷
+    -- buffer too short: under the room needed, three bytes for each command sent
+    rule 15 (leb (3 * length (sent-by (command c (children-of l) q m))) (length out)) ∷ []
+
+-- the present classes, their names, and the room for a list
+unfoldable pub loop-checks : Class → ℕ → List ℕ → List Check
+loop-checks c present out =
+    -- a present bit not below K
+    rule 13 (present-right c present) ∷
+    -- N over 20
+    rule 14 (leb (name-count c present) 20) ∷
+    -- buffer too short: under 2N bytes
+    rule 15 (leb (2 * name-count c present) (length out)) ∷ []
+
+-- the checks of each question
+unfoldable pub table : Question → List Check
+table (judge b) = sheet-checks b
+table (probe-in b l q) = sheet-checks b ++ place-checks (class-of b) l q
+table (phase-from b l q) = sheet-checks b ++ place-checks (class-of b) l q
+table (command-in b l q m out) = sheet-checks b ++ (place-checks (class-of b) l q ++ command-checks (class-of b) l q m out)
+table (loop-with b present out) = sheet-checks b ++ loop-checks (class-of b) present out
