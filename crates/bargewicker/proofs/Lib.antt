@@ -7,4 +7,9 @@ pub mod BufferLaws
 pub mod HandlingLaws
 pub mod PresentLaws
 pub mod LoopLaws
+pub mod PackedLaws
+pub mod ReadBack
+pub mod SentCount
+pub mod AnswerBounds
+pub mod NothingLost
 pub mod Unique
