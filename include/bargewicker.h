@@ -1,0 +1,134 @@
+/*
+ * Bargewicker for C: five questions about class sheets, the binary form of a node class.
+ *
+ * Link with libbargewicker.a, which 'rt staticlib bargewicker' writes for x86-64 Linux to target/staticlib/.
+ *
+ * Nothing is asked of a call but that each pointer points at as many bytes as the length behind it says, and that the buffer 'out'
+ * overlaps neither the sheet nor the child list. Any bytes and any numbers get an answer, and always the same one. A refusal writes
+ * nothing, and bytes of the buffer behind those written are kept. No function keeps a pointer, allocates, or calls anything.
+ *
+ * Each function returns one word. Bits 0 to 7 are the refusal, 0 for none. Where there is none, bits 8 to 15 are the kind of the
+ * answer, and the fields of that kind follow; every other bit is 0:
+ *
+ *   question    kind           fields
+ *   judge       0 accepted
+ *   probe       0 none
+ *               1 clause       16-31 clause number, 32-39 referrer, 40-47 target
+ *   when phase  0 no clause    16-23 state, 24-31 moves
+ *               1 STAY         16-23 state, 24-31 moves
+ *               2 DO           16-23 state, 24-31 moves, 32-39 command
+ *               3 loop         16-23 state, 24-31 moves
+ *   command     0 ignored      16-23 state
+ *               1 handled      16-23 state, 32-63 bytes written
+ *   loop        0 free         24-31 moves
+ *               1 loop         16-23 state, 32-63 configuration
+ *
+ * The functions bw_refusal, bw_kind and so on below read one field each.
+ */
+#ifndef BARGEWICKER_H
+#define BARGEWICKER_H
+
+#include <stddef.h>
+#include <stdint.h>
+
+#ifdef __cplusplus
+extern "C" {
+#endif
+
+/* Refusals. Each is given only where none before it is. 1 to 9 are the sheet's own; a question adds the ones named with it. */
+enum {
+    BW_NOT_REFUSED = 0,
+    BW_SHEET_LENGTH = 1,     /* under 24 or over 18,616 bytes */
+    BW_CONTENTS = 2,         /* starts, end, a length that is no whole number of records, a count outside its range */
+    BW_EMPTY_NAME_SET = 3,   /* a child class with an empty set */
+    BW_CLAUSE_COUNTS = 4,    /* when or action counts of the states do not sum to those of the bodies */
+    BW_GUARD_LAYOUT = 5,     /* a guard record breaks its layout */
+    BW_GUARD_REACH = 6,      /* a when clause's guard begins past the end, runs past it, or is too deep */
+    BW_TARGET = 7,           /* a referrer over 2, or a wrong target */
+    BW_ACTION_CLAUSE = 8,    /* command, zero byte, repeat in a state, or statement counts */
+    BW_STATEMENT = 9,        /* a statement breaks its layout, its part or depth, or an if's guard its reach */
+    BW_CHILD_LIST = 10,      /* odd, over 4,096 children, a class that is not there, a name that is not in its class */
+    BW_ASKED_STATE = 11,     /* the asked state is not below the number of states */
+    BW_ASKED_COMMAND = 12,   /* the asked command is over 63 */
+    BW_PRESENT_BIT = 13,     /* a present bit is not below the number of child classes */
+    BW_NAME_COUNT = 14,      /* the present classes have more than 20 names together */
+    BW_ROOM = 15             /* the buffer is too short */
+};
+
+/* Kinds of answers, by question. */
+enum { BW_PROBE_NONE = 0, BW_PROBE_CLAUSE = 1 };
+enum { BW_PHASE_NONE = 0, BW_PHASE_STAY = 1, BW_PHASE_DO = 2, BW_PHASE_LOOP = 3 };
+enum { BW_COMMAND_IGNORED = 0, BW_COMMAND_HANDLED = 1 };
+enum { BW_LOOP_FREE = 0, BW_LOOP_FOUND = 1 };
+
+/* Referrers of a when clause. */
+enum { BW_MOVE_TO = 0, BW_DO = 1, BW_STAY = 2 };
+
+/* Is this byte string a class sheet? Refusals 1 to 9. */
+uint64_t bw_judge(const uint8_t *sheet, size_t sheet_length);
+
+/* Which clause of the state is the first whose guard these children make true? A child list is pairs of bytes, class and name.
+ * Refusals 1 to 9, 10, 11. */
+uint64_t bw_probe(const uint8_t *sheet, size_t sheet_length, const uint8_t *children, size_t children_length, uint8_t state);
+
+/* Where does the when phase from the state settle with these children, and by what; or does it loop? A loop is answered after as
+ * many moves as the class has states, with the state after them. Refusals 1 to 9, 10, 11. */
+uint64_t bw_when_phase(const uint8_t *sheet, size_t sheet_length, const uint8_t *children, size_t children_length, uint8_t state);
+
+/* What does the command send to which children, and which state does it leave? Three bytes for each command sent go to the buffer:
+ * the child's place in the list, low byte first, and the command. Refusals 1 to 9, 10, 11, 12, and 15 where the buffer is too short
+ * for what is sent; 12,582,912 bytes are enough for every command. */
+uint64_t bw_command(const uint8_t *sheet, size_t sheet_length, const uint8_t *children, size_t children_length, uint8_t state,
+                    uint8_t command, uint8_t *out, size_t room);
+
+/* Can a node of this class loop, if children of the present classes (bit c for class c) are in any states? On a loop the answer is the
+ * smallest configuration with one, the smallest state that returns to itself there, and in the buffer the children, two bytes, class
+ * and name, for each set bit of the configuration (bw_loop_written). Free: the largest number of moves that a phase makes.
+ * Refusals 1 to 9, 13, 14, and 15 where the buffer has not two bytes for each name of the present classes; 40 are always enough. */
+uint64_t bw_loop(const uint8_t *sheet, size_t sheet_length, uint8_t present, uint8_t *out, size_t room);
+
+/* A field of a word: width bits, from bit lowest on. */
+static inline uint32_t bw_field(uint64_t word, unsigned lowest, unsigned width)
+{
+    return (uint32_t)((word >> lowest) & (((uint64_t)1 << width) - 1));
+}
+
+/* The refusal, BW_NOT_REFUSED for none. */
+static inline uint32_t bw_refusal(uint64_t word) { return bw_field(word, 0, 8); }
+
+/* The kind of the answer, where nothing was refused. */
+static inline uint32_t bw_kind(uint64_t word) { return bw_field(word, 8, 8); }
+
+/* The probe's clause: its number within the state, its referrer, and the referrer's target (a state for BW_MOVE_TO, the number of an
+ * action clause within the state for BW_DO, 0 for BW_STAY). */
+static inline uint32_t bw_probe_clause(uint64_t word) { return bw_field(word, 16, 16); }
+static inline uint32_t bw_probe_referrer(uint64_t word) { return bw_field(word, 32, 8); }
+static inline uint32_t bw_probe_target(uint64_t word) { return bw_field(word, 40, 8); }
+
+/* The when phase: the state reached, the moves made, and the command of a DO. */
+static inline uint32_t bw_phase_state(uint64_t word) { return bw_field(word, 16, 8); }
+static inline uint32_t bw_phase_moves(uint64_t word) { return bw_field(word, 24, 8); }
+static inline uint32_t bw_phase_command(uint64_t word) { return bw_field(word, 32, 8); }
+
+/* The command: the state that it leaves, and how many bytes were written. */
+static inline uint32_t bw_command_state(uint64_t word) { return bw_field(word, 16, 8); }
+static inline uint32_t bw_command_written(uint64_t word) { return bw_field(word, 32, 32); }
+
+/* The loop question: the moves where it is free; the state and the configuration of a loop. */
+static inline uint32_t bw_loop_moves(uint64_t word) { return bw_field(word, 24, 8); }
+static inline uint32_t bw_loop_state(uint64_t word) { return bw_field(word, 16, 8); }
+static inline uint32_t bw_loop_configuration(uint64_t word) { return bw_field(word, 32, 32); }
+
+/* How many bytes a loop's list has: two for each set bit of its configuration; 0 where there is no loop. */
+static inline uint32_t bw_loop_written(uint64_t word)
+{
+    uint32_t rest = bw_loop_configuration(word), bytes = 0;
+    for (; rest != 0; rest &= rest - 1) bytes += 2;
+    return bytes;
+}
+
+#ifdef __cplusplus
+}
+#endif
+
+#endif
