@@ -25,7 +25,7 @@ use Rattle.bodies.proofs.Bytes.{u16-below}
 use Rattle.sheet.specs.Contents.{bodies}
 use Rattle.sheet.specs.Rules.{Accepted}
 use Rattle.sheet.specs.Reading.{class-of, when-in, action-in}
-use Rattle.sheet.proofs.Contents.{body-bytes, state-count-most, all-statements-most}
+use Rattle.sheet.proofs.Contents.{body-bytes, counted}
 use Rattle.sheet.proofs.Reading.{own-states-in, whens-in, mem-whens, mem-actions}
 use Rattle.sheet.proofs.Rules.{accepted-right}
 use Rattle.sheet.proofs.Sound.{sound}
@@ -98,7 +98,7 @@ module _ (b : List ℕ) (h : Bytes b) (a : Accepted b) (ks : List Child) where
   -- at most 32 states
   pub few : own-states c ≤ 32
   unfolding class-of
-  few = omega (arith, own-states-in (bodies b), state-count-most b (accepted-right b a .contents))
+  few = omega (arith, own-states-in (bodies b), counted b (accepted-right b a .contents) .states-most)
 
   -- what stands past the end of a state's when clauses
   abbrev past : When
@@ -161,5 +161,5 @@ module _ (b : List ℕ) (h : Bytes b) (a : Accepted b) (ks : List Child) where
             let (x, y, z) = clause-listed m (state-of c q .actions) p f in
             let (j, u, v, w) = mem-actions (bodies b) q x y in
             let n : part-size p ≤ in-eights (bodies b .statements) = subst (λ (p : Part). part-size p ≤ in-eights (bodies b .statements)) (sym (ap (λ (x : Action). x .body) w) ∙ z) (body-sized (bodies b) _) in
-            let l : part-size p ≤ 1024 = omega (arith, all-statements-most b (accepted-right b a .contents)) in
+            let l : part-size p ≤ 1024 = omega (arith, counted b (accepted-right b a .contents) .statements-most) in
             omega (arith, bytes-most p ks l k)

@@ -18,7 +18,7 @@ use Rattle.bodies.proofs.Branches.{choose-case}
 use Rattle.sheet.specs.Rules.{refusal, Accepted}
 use Rattle.sheet.specs.Reading.{class-of}
 use Rattle.sheet.specs.ChildList.{children-of, list-right}
-use Rattle.sheet.proofs.JudgeLaws.{refusal-most}
+use Rattle.sheet.proofs.VerdictLaws.{refusal-most}
 use Rattle.sheet.proofs.Sound.{sound}
 use Rattle.loops.specs.Configurations.{name-count}
 use Rattle.loops.specs.LoopAnswer.{Loops, loop, free, loop-answer}

@@ -6,6 +6,5 @@ pub mod Promises
 pub mod Cases
 pub mod Table
 pub mod Demands
-pub mod Demand3
 pub mod Packed
 pub mod Unique

@@ -55,6 +55,18 @@ module _ (s : Bodies) where
             (a - first, l, (omega arith), (e ∙ ap read z))
         go (inr l) = absurd (List·Memᴰ·not-nil (subst (λ (y : List A). List·Memᴰ x y) (ap clauses (state-of-past q l) ∙ none) m))
 
+    -- a state has as many of them as its record says
+    clauses-in : (q : ℕ) → q < in-fours (s .states) → length (clauses (state-of (class-in s) q)) ≡ count-at (s .states) offset q
+    clauses-in q l = ap (λ (x : State). length (clauses x)) (state-of-in q l) ∙ ap length (reads q) ∙ length-listed (count-sum (s .states) offset q) (count-at (s .states) offset q) read
+
+  pub whens-in : (q : ℕ) → q < in-fours (s .states) → length (state-of (class-in s) q .whens) ≡ when-count (s .states) q
+  unfolding state-in
+  whens-in = clauses-in (λ x. x .whens) 0 (when-in s) (λ q. refl) refl
+
+  pub actions-in : (q : ℕ) → q < in-fours (s .states) → length (state-of (class-in s) q .actions) ≡ action-count (s .states) q
+  unfolding state-in
+  actions-in = clauses-in (λ x. x .actions) 2 (action-in s) (λ q. refl) refl
+
   pub mem-whens : (q : ℕ) (w : When) → List·Memᴰ w (state-of (class-in s) q .whens)
       → (i : ℕ) × (q < in-fours (s .states)) × (i < when-count (s .states) q) × (w ≡ when-in s (first-when (s .states) q + i))
   unfolding state-in
@@ -65,11 +77,7 @@ module _ (s : Bodies) where
   unfolding state-in
   mem-actions = mem-clauses (λ x. x .actions) 2 (action-in s) (λ q. refl) refl
 
-  -- a state has as many action clauses as its record says, and clause i is clause i behind its first
-  pub actions-in : (q : ℕ) → q < in-fours (s .states) → length (state-of (class-in s) q .actions) ≡ action-count (s .states) q
-  unfolding state-in
-  actions-in q l = rw (state-of-in q l) (length-listed (first-action (s .states) q) (action-count (s .states) q) (action-in s))
-
+  -- action clause i of state q is clause i behind its first
   pub action-of-in : (q i : ℕ) (d : Action) → q < in-fours (s .states) → i < action-count (s .states) q → getD (state-of (class-in s) q .actions) i d ≡ action-in s (first-action (s .states) q + i)
   unfolding state-in
   action-of-in q i d l m = rw (state-of-in q l) (getD-listed (first-action (s .states) q) (action-count (s .states) q) (action-in s) d i (first-action (s .states) q + i) m refl)
