@@ -8,7 +8,7 @@ use crate::random::Random;
 use crate::tree::Class;
 
 /// How many names the loop question may have where it is asked in passing.
-const NAMES_IN_PASSING: usize = 11;
+pub const NAMES_IN_PASSING: usize = 11;
 
 /// A child list in which every child's name is in its class.
 pub fn list(random: &mut Random, class: &Class) -> Vec<u8> {
@@ -186,11 +186,11 @@ pub fn short_command(random: &mut Random, sheet: Vec<u8>, class: &Class) -> Ques
     Question::Command { sheet, list, state, command, buffer: random.bytes(length) }
 }
 
-/// A loop question with a present bit too many, where there is one.
-pub fn absent_class(random: &mut Random, sheet: Vec<u8>, class: &Class) -> Question {
+/// A loop question with a present bit too many, where there is one, and no more names than this.
+pub fn absent_class(random: &mut Random, sheet: Vec<u8>, class: &Class, most: usize) -> Question {
     let classes = class.children.len();
     let extra = if classes < 8 { 1u8 << random.between(classes, 7) } else { 0 };
-    let present = present(random, class, NAMES_IN_PASSING) | extra;
+    let present = present(random, class, most) | extra;
     let room = 2 * pairs(class, present).len();
     let buffer = buffer(random, room);
     Question::Loop { sheet, present, buffer }

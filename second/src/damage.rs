@@ -283,10 +283,28 @@ fn too_many_ifs(random: &mut Random) -> Vec<[u8; 8]> {
     records
 }
 
+/// Moves a part of a count to another record, or to the other part of an if; the sums stay. The sheet may still be good.
+pub fn shift_counts(random: &mut Random, bodies: &mut Bodies) {
+    let (body, offsets) = random.pick(&[(STATES, [0, 0]), (STATES, [2, 2]), (ACTIONS, [2, 2]), (STATEMENTS, [4, 6]), (STATEMENTS, [6, 4])]);
+    let branches: Vec<usize> = (0..bodies.count(STATEMENTS)).filter(|at| bodies.0[STATEMENTS][at * 8] == 2).collect();
+    let (from, to) = match body {
+        STATEMENTS if branches.is_empty() => return,
+        STATEMENTS => { let at = random.pick(&branches); (at, at) }
+        _ => (random.below(bodies.count(body)), random.below(bodies.count(body))),
+    };
+    let most = bodies.number(body, from, offsets[0]);
+    if most > 0 {
+        let part = random.between(1, usize::from(most)) as u16;
+        bodies.set_number(body, from, offsets[0], most - part);
+        let more = bodies.number(body, to, offsets[1]) + part;
+        bodies.set_number(body, to, offsets[1], more);
+    }
+}
+
 /// Damages the contents, or cuts or lengthens the sheet, so that it breaks rule 2.
 pub fn damage_contents(random: &mut Random, bodies: &Bodies) -> Vec<u8> {
     let mut sheet = bodies.sheet();
-    match random.below(8) {
+    match random.below(10) {
         0 => sheet.truncate(random.between(24, sheet.len() - 1)),
         1 => sheet.extend(vec![0; random.between(1, 8)]),
         2 => nudge(random, &mut sheet, 0),
@@ -342,12 +360,12 @@ fn gap(random: &mut Random, bodies: &Bodies) -> Vec<u8> {
 fn bad_count(random: &mut Random, bodies: &Bodies) -> Vec<u8> {
     let few = Counts { classes: 1, states: 5, whens: 2, guards: 2, actions: 1, statements: 1 };
     let counts = match random.below(20) {
-        0..=4 => Counts { classes: random.between(9, 12), ..few },
-        5..=9 => Counts { states: random.between(33, 36), ..few },
-        10..=13 => return Bodies([vec![], vec![], vec![], bodies.0[GUARDS].clone(), vec![], vec![]]).sheet(),
-        14 | 15 => Counts { whens: 257, ..few },
-        16 | 17 => Counts { actions: 257, ..few },
-        18 => Counts { guards: 1025, ..few },
+        0..=4 => Counts { classes: random.pick(&[9, 9, 10]), ..few },
+        5..=9 => Counts { states: random.pick(&[33, 33, 34]), ..few },
+        10..=12 => return Bodies([vec![], vec![], vec![], bodies.0[GUARDS].clone(), vec![], vec![]]).sheet(),
+        13 | 14 => Counts { whens: 257, ..few },
+        15 | 16 => Counts { actions: 257, ..few },
+        17 | 18 => Counts { guards: 1025, ..few },
         _ => Counts { statements: 1025, ..few },
     };
     counted(random, counts).sheet()

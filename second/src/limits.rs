@@ -1,8 +1,8 @@
 //! Sheets at the limits of the tables, and guards that share records.
 
 use crate::random::Random;
-use crate::shapes::{atom, class, class_over, commands, deep_guard, names, pattern, statements, Shape, WHOLE};
-use crate::tree::{Class, Guard, Names, Statement};
+use crate::shapes::{atom, class, class_over, commands, deep_guard, names, pattern, statements, Shape, LADDER, WHOLE};
+use crate::tree::{Atom, Clause, Class, Guard, Names, Pattern, Quantifier, Referrer, Statement};
 use crate::writing::{atom_record, bodies_of, name_bytes, pattern_byte, Bodies, ACTIONS, CLASSES, GUARDS, STATEMENTS, STATES, WHENS};
 
 /// A class with one when guard and one if guard whose longest path has this many operators.
@@ -45,9 +45,9 @@ pub fn ifs_of_depth(random: &mut Random, depth: usize) -> Class {
     class
 }
 
-/// A class with this many names in all, in one to four child classes (each has at most 32).
-pub fn many_names(random: &mut Random, total: usize, shape: &Shape) -> Class {
-    let parts = random.between(total.div_ceil(32), 4);
+/// One to four child classes with this many names in all (each has at most 32).
+fn child_classes(random: &mut Random, total: usize) -> Vec<Names> {
+    let parts = random.between(total.div_ceil(32), total.min(4));
     let mut children = Vec::new();
     let mut left = total;
     for rest in (0..parts).rev() {
@@ -57,7 +57,55 @@ pub fn many_names(random: &mut Random, total: usize, shape: &Shape) -> Class {
         children.push(names(random, count));
         left -= count;
     }
+    children
+}
+
+/// A class with this many names in all.
+pub fn many_names(random: &mut Random, total: usize, shape: &Shape) -> Class {
+    let children = child_classes(random, total);
     class_over(random, shape, children)
+}
+
+/// A guard that says whether some child of the class has the name.
+fn pin(random: &mut Random, class: u8, name: u8, occupied: bool) -> Guard {
+    let quantifier = random.pick(&[Quantifier::Any, Quantifier::All]);
+    let inside = quantifier == Quantifier::Any;
+    let atom = Guard::Atom(Atom { quantifier, inside, pattern: Pattern::Class(class), names: Names::from([name]) });
+    if occupied == inside { atom } else { Guard::Not(Box::new(atom)) }
+}
+
+/// All of the guards.
+fn all_of(guards: &[Guard]) -> Guard {
+    match guards {
+        [one] => one.clone(),
+        _ => {
+            let (left, right) = guards.split_at(guards.len() / 2);
+            Guard::And(Box::new(all_of(left)), Box::new(all_of(right)))
+        }
+    }
+}
+
+/// A class in which one configuration alone makes every state move on; with a way back from the last state, or without.
+pub fn pinned(random: &mut Random, total: usize) -> Class {
+    let shape = Shape { states: (2, 4), clauses: (0, 2), depth: 1, actions: (0, 0), ..LADDER };
+    let mut class = many_names(random, total, &shape);
+    let everything = random.chance(30);
+    let mut pins = Vec::new();
+    for (number, names) in class.children.iter().enumerate() {
+        for name in names {
+            let occupied = everything || random.chance(50);
+            pins.push(pin(random, number as u8, *name, occupied));
+        }
+    }
+    let guard = all_of(&pins);
+    let (count, back) = (class.states.len(), random.chance(50));
+    for (number, state) in class.states.iter_mut().enumerate() {
+        if back || number + 1 < count {
+            let referrer = Referrer::MoveTo(((number + 1) % count) as u8);
+            state.clauses.insert(0, Clause { guard: guard.clone(), referrer });
+        }
+    }
+    class
 }
 
 /// Random guard records of which most begin a guard; operators and atoms are mixed, so guards overlap.
@@ -107,6 +155,10 @@ pub fn shared(random: &mut Random) -> Bodies {
     if places.is_empty() {
         bodies.push(GUARDS, &[0, 255, 0, 0, 255, 255, 0, 0]);
         places.push(bodies.count(GUARDS) as u16 - 1);
+    }
+    if random.chance(20) {
+        // one place more, at which perhaps no guard begins
+        places.push(random.below(bodies.count(GUARDS)) as u16);
     }
     aim_guards(random, &mut bodies, &places);
     bodies

@@ -1,18 +1,18 @@
 //! The mix of random questions.
 
+use crate::asking::{absent_class, bad_input, children_of, everyone, good, good_of_kind, short_command, NAMES_IN_PASSING};
 use crate::behaviour::{command, phase, Child, Phase};
-use crate::asking::{absent_class, bad_input, children_of, everyone, good, good_of_kind, short_command};
-use crate::damage::{damage_contents, damage_length, damage_records};
+use crate::damage::{damage_contents, damage_length, damage_records, shift_counts};
 use crate::judging::judge;
-use crate::limits::{guards_of_depth, ifs_of_depth, large, many_names, shared};
+use crate::limits::{guards_of_depth, ifs_of_depth, large, many_names, pinned, shared};
 use crate::lines::{Question, LONGEST_LINE};
 use crate::random::Random;
-use crate::shapes::{class, Shape, Style, BUSY, CROWD, LADDER, RING, SMALL, WHOLE};
+use crate::shapes::{class, Shape, Style, BUSY, CROWD, LADDER, RING, ROUND, SMALL, TALL, WHOLE};
 use crate::tree::{Class, Names};
 use crate::writing::bodies_of;
 
 /// Every so many questions comes one that takes long to answer or to send.
-const HEAVY_EVERY: u64 = 1000;
+const HEAVY_EVERY: u64 = 500;
 
 /// The line of one question of a run.
 pub fn make_line(seed: u64, index: u64) -> Vec<u8> {
@@ -22,14 +22,16 @@ pub fn make_line(seed: u64, index: u64) -> Vec<u8> {
     }
     let question = match random.below(200) {
         0..=69 => accepted(random),
-        70..=74 => overlapping(random),
-        75..=79 => near_limit(random),
-        80..=139 => damaged(random),
-        140..=164 => wrongly_asked(random),
-        165..=182 => many_faults(random),
-        183..=193 => scattered(random),
+        70..=75 => overlapping(random),
+        76..=80 => near_limit(random),
+        81..=140 => damaged(random),
+        141..=163 => wrongly_asked(random),
+        164..=180 => many_faults(random),
+        181..=188 => scattered(random),
+        189..=193 => shifted(random),
         194 => big(random),
-        195 | 196 => twelve_names(random),
+        195 => twelve_names(random),
+        196 => one_configuration(random),
         _ => return bad_line(random),
     };
     question.line().into_bytes()
@@ -37,7 +39,7 @@ pub fn make_line(seed: u64, index: u64) -> Vec<u8> {
 
 /// A question about a good sheet of some shape.
 fn accepted(random: &mut Random) -> Question {
-    let shape = random.pick(&[SMALL, SMALL, WHOLE, LADDER, LADDER, RING, RING, RING, BUSY, BUSY, CROWD]);
+    let shape = random.pick(&[SMALL, SMALL, WHOLE, WHOLE, LADDER, LADDER, RING, RING, RING, RING, BUSY, BUSY, BUSY, CROWD, CROWD, TALL, ROUND]);
     let class = class(random, &shape);
     let sheet = bodies_of(&class, random.chance(50)).sheet();
     match shape.style {
@@ -106,10 +108,8 @@ fn many_faults(random: &mut Random) -> Question {
     good(random, sheet, &class)
 }
 
-/// A question about a sheet in which a few bytes were changed at random.
-fn scattered(random: &mut Random) -> Question {
-    let class = class(random, &WHOLE);
-    let mut sheet = bodies_of(&class, random.chance(50)).sheet();
+/// Changes a few bytes of a sheet at random.
+fn scatter(random: &mut Random, sheet: &mut [u8]) {
     for _ in 0..random.pick(&[1, 1, 1, 2, 3]) {
         let at = random.below(sheet.len());
         sheet[at] = match random.below(4) {
@@ -119,10 +119,30 @@ fn scattered(random: &mut Random) -> Question {
             _ => random.byte(0, 255),
         };
     }
+}
+
+/// A question about a changed sheet: about the class it stands for now, or about the one it stood for.
+fn about_changed(random: &mut Random, sheet: Vec<u8>, before: &Class) -> Question {
     match judge(&sheet) {
         Ok(changed) => good(random, sheet, &changed),
-        Err(_) => good(random, sheet, &class),
+        Err(_) => good(random, sheet, before),
     }
+}
+
+/// A question about a sheet in which a few bytes were changed at random.
+fn scattered(random: &mut Random) -> Question {
+    let class = class(random, &WHOLE);
+    let mut sheet = bodies_of(&class, random.chance(50)).sheet();
+    scatter(random, &mut sheet);
+    about_changed(random, sheet, &class)
+}
+
+/// A question about a sheet in which counts were moved from one record to another, so that every sum stays what it was.
+fn shifted(random: &mut Random) -> Question {
+    let class = class(random, &Shape { states: (2, 4), actions: (1, 2), statements: (1, 5), ..WHOLE });
+    let mut bodies = bodies_of(&class, random.chance(50));
+    shift_counts(random, &mut bodies);
+    about_changed(random, bodies.sheet(), &class)
 }
 
 /// A good sheet, but a question that breaks one or more of the rules 10 to 15.
@@ -138,21 +158,21 @@ fn wrongly_asked(random: &mut Random) -> Question {
             let rules = random.pick(&[[10, 11], [11, 12], [10, 12]]);
             bad_input(random, &rules, sheet, &class)
         }
-        5 | 6 => absent_class(random, sheet, &class),
+        5 | 6 => absent_class(random, sheet, &class, NAMES_IN_PASSING),
         7 | 8 => too_many_names(random),
         9 => everyone(random, sheet, &class, true),
         _ => short_command(random, sheet, &class),
     }
 }
 
-/// A loop question on 21 names or more, or now and then with one absent class besides.
+/// A loop question on 21 names or more, now and then with an absent class or a short buffer besides.
 fn too_many_names(random: &mut Random) -> Question {
     let total = random.pick(&[21, 21, 22, 25, 32, 52]);
     let class = many_names(random, total, &SMALL);
     let sheet = bodies_of(&class, true).sheet();
-    match (random.below(4), class.children.len()) {
-        (0, _) => absent_class(random, sheet, &class),
-        (1, _) => everyone(random, sheet, &class, true),
+    match random.below(4) {
+        0 => absent_class(random, sheet, &class, usize::MAX),
+        1 => everyone(random, sheet, &class, true),
         _ => everyone(random, sheet, &class, false),
     }
 }
@@ -166,31 +186,49 @@ fn twelve_names(random: &mut Random) -> Question {
     everyone(random, sheet, &class, false)
 }
 
-/// A question about a large sheet.
+/// A loop question on a class in which one configuration alone makes a loop, or makes the most moves.
+fn one_configuration(random: &mut Random) -> Question {
+    let total = random.between(1, 12);
+    let class = pinned(random, total);
+    let sheet = bodies_of(&class, random.chance(50)).sheet();
+    everyone(random, sheet, &class, false)
+}
+
+/// A question about a large sheet, good or changed.
 fn big(random: &mut Random) -> Question {
-    let bodies = large(random);
-    let sheet = bodies.sheet();
-    match judge(&sheet) {
-        Ok(class) => good(random, sheet, &class),
-        Err(_) => Question::Judge { sheet },
+    let mut bodies = large(random);
+    let mut sheet = bodies.sheet();
+    let Ok(class) = judge(&sheet) else { return Question::Judge { sheet } };
+    match random.below(10) {
+        0..=5 => return good(random, sheet, &class),
+        6 | 7 => scatter(random, &mut sheet),
+        8 => sheet = damage_contents(random, &bodies),
+        _ => {
+            shift_counts(random, &mut bodies);
+            sheet = bodies.sheet();
+        }
     }
+    about_changed(random, sheet, &class)
 }
 
 /// One of the questions that take long: many names, or many children.
 fn heavy(random: &mut Random, turn: u64) -> Question {
     let few = Shape { states: (1, 2), clauses: (1, 2), depth: 1, actions: (0, 0), ..RING };
-    match turn % 20 {
-        0 => on_names(random, 20, &Shape { states: (2, 2), clauses: (1, 1), depth: 0, style: Style::Upwards, ..few }),
-        1 | 8 => on_names(random, 13, &few),
-        2 | 9 => on_names(random, 14, &few),
-        3 => on_names(random, 15, &few),
-        4 => on_names(random, 16, &few),
-        5 | 10 | 15 => early_loop(random, 20),
-        6 => early_loop(random, 19),
-        7 => on_names(random, 21, &few),
-        11 => brimful(random, 0),
-        12 => brimful(random, 1),
-        13 => brimful(random, 2),
+    let plain = Shape { states: (2, 2), clauses: (1, 1), depth: 0, style: Style::Upwards, ..few };
+    match turn % 40 {
+        0 => on_names(random, 20, &plain),
+        1..=3 => on_names(random, 13, &few),
+        4..=6 => on_names(random, 14, &few),
+        7 | 8 => on_names(random, 15, &few),
+        9 | 10 => on_names(random, 16, &few),
+        11 => on_names(random, 17, &few),
+        12 => on_names(random, 18, &few),
+        13..=15 => early_loop(random, 20),
+        16 => early_loop(random, 19),
+        17 => on_names(random, 21, &few),
+        18 => brimful(random, 0),
+        19 => brimful(random, 1),
+        20 => brimful(random, 2),
         _ => long_list(random),
     }
 }

@@ -24,6 +24,8 @@ pub struct Shape {
     pub depth: usize,
     pub actions: (usize, usize),
     pub statements: (usize, usize),
+    /// So many when guards in a hundred are true of every list.
+    pub always: usize,
     pub style: Style,
 }
 
@@ -36,6 +38,7 @@ pub const SMALL: Shape = Shape {
     depth: 3,
     actions: (0, 3),
     statements: (0, 4),
+    always: 0,
     style: Style::Anywhere,
 };
 
@@ -51,8 +54,12 @@ pub const RING: Shape = Shape { classes: (1, 2), names: (2, 5), states: (2, 6), 
 /// Commands with much in them.
 pub const BUSY: Shape = Shape { classes: (1, 4), states: (1, 3), clauses: (0, 2), actions: (1, 5), statements: (1, 7), ..SMALL };
 
-/// As many child classes as there can be, few names each.
-pub const CROWD: Shape = Shape { classes: (8, 8), names: (1, 2), states: (1, 4), clauses: (1, 3), ..SMALL };
+/// Many states and long walks, with and without a way back.
+pub const TALL: Shape = Shape { classes: (1, 2), names: (1, 3), states: (16, 32), clauses: (1, 2), depth: 1, always: 60, ..LADDER };
+pub const ROUND: Shape = Shape { style: Style::Ring, always: 75, ..TALL };
+
+/// Many child classes, few names each.
+pub const CROWD: Shape = Shape { classes: (4, 8), names: (1, 2), states: (1, 4), clauses: (1, 3), ..SMALL };
 
 /// This many names out of 32.
 pub fn names(random: &mut Random, count: usize) -> Names {
@@ -113,6 +120,16 @@ pub fn guard(random: &mut Random, children: &[Names], depth: usize) -> Guard {
     }
 }
 
+/// A guard that is true of every list: all of the pattern's children are in names that they cannot but be in.
+fn true_guard(random: &mut Random, children: &[Names]) -> Guard {
+    let pattern = pattern(random, children.len());
+    let names = match pattern {
+        Pattern::Class(class) if random.chance(50) => children[usize::from(class)].clone(),
+        _ => (0..32).collect(),
+    };
+    Guard::Atom(Atom { quantifier: Quantifier::All, inside: true, pattern, names })
+}
+
 /// A guard with exactly this many operators on its longest path.
 pub fn deep_guard(random: &mut Random, children: &[Names], depth: usize) -> Guard {
     if depth == 0 {
@@ -134,16 +151,16 @@ fn target(random: &mut Random, style: Style, from: usize, states: usize) -> Opti
     match style {
         Style::Anywhere => Some(random.below(states) as u8),
         Style::Upwards if from + 1 == states => None,
-        Style::Upwards if random.chance(70) => Some(from as u8 + 1),
+        Style::Upwards if random.chance(85) => Some(from as u8 + 1),
         Style::Upwards => Some(random.between(from + 1, states - 1) as u8),
-        Style::Ring if random.chance(75) => Some(((from + 1) % states) as u8),
+        Style::Ring if random.chance(80) => Some(((from + 1) % states) as u8),
         Style::Ring => Some(random.below(states) as u8),
     }
 }
 
 /// What a when clause of a state leads to.
 fn referrer(random: &mut Random, shape: &Shape, from: usize, states: usize, actions: usize) -> Referrer {
-    let percent = if shape.style == Style::Anywhere { 55 } else { 85 };
+    let percent = if shape.style == Style::Anywhere { 55 } else { 85 + shape.always / 6 };
     if random.chance(percent) {
         if let Some(target) = target(random, shape.style, from, states) {
             return Referrer::MoveTo(target);
@@ -183,7 +200,7 @@ fn state(random: &mut Random, shape: &Shape, children: &[Names], number: usize, 
     let actions: Vec<Action> = bodies.map(|command| Action { command, body: statements(random, children, states, shape.statements, 3) }).collect();
     let wanted = random.between(shape.clauses.0, shape.clauses.1);
     let clauses = (0..wanted).map(|_| Clause {
-        guard: guard(random, children, shape.depth),
+        guard: if random.chance(shape.always) { true_guard(random, children) } else { guard(random, children, shape.depth) },
         referrer: referrer(random, shape, number, states, actions.len()),
     });
     let clauses = clauses.collect();
