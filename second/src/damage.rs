@@ -183,7 +183,7 @@ fn damage_9(random: &mut Random, children: &[Names], bodies: &mut Bodies) {
             damage_statement(random, bodies, at, classes, states);
         }
         2 => crossing(random, bodies),
-        3..=5 => {
+        3..=6 => {
             let record = good_statement(random, states);
             add_clause(random, bodies, vec![record]);
             damage_statement(random, bodies, at, classes, states + 1);
