@@ -214,15 +214,20 @@ fn big(random: &mut Random) -> Question {
 /// One of the questions that take long: many names, or many children.
 fn heavy(random: &mut Random, turn: u64) -> Question {
     let few = Shape { states: (1, 2), clauses: (1, 2), depth: 1, actions: (0, 0), ..RING };
+    let steps = Shape { states: (2, 4), style: Style::Upwards, ..few };
     let plain = Shape { states: (2, 2), clauses: (1, 1), depth: 0, style: Style::Upwards, ..few };
     match turn % 40 {
         0 => on_names(random, 20, &plain),
-        1..=3 => on_names(random, 13, &few),
-        4..=6 => on_names(random, 14, &few),
-        7 | 8 => on_names(random, 15, &few),
-        9 | 10 => on_names(random, 16, &few),
-        11 => on_names(random, 17, &few),
-        12 => on_names(random, 18, &few),
+        1 | 2 => on_names(random, 13, &few),
+        3 => on_names(random, 13, &steps),
+        4 | 5 => on_names(random, 14, &few),
+        6 => on_names(random, 14, &steps),
+        7 => on_names(random, 15, &few),
+        8 => on_names(random, 15, &steps),
+        9 => on_names(random, 16, &few),
+        10 => on_names(random, 16, &steps),
+        11 => on_names(random, 17, &steps),
+        12 => on_names(random, 18, &steps),
         13 => on_names(random, 19, &few),
         14 => on_names(random, 20, &few),
         15..=17 => early_loop(random, 20),
