@@ -1,0 +1,125 @@
+//! Compares the answers of the program `questions` with our own, and counts what was compared.
+
+use crate::answering::answer_line;
+use std::collections::BTreeMap;
+
+/// Every refusal number must be hit this often, in a run of this many questions or more.
+const FLOOR: usize = 50;
+const FULL_RUN: usize = 20_000;
+
+/// How many differences are printed, and how much of a line.
+const SHOWN: usize = 5;
+const SHOWN_BYTES: usize = 600;
+
+/// What has been compared.
+#[derive(Default)]
+struct Tally {
+    questions: BTreeMap<String, usize>,
+    answers: BTreeMap<String, usize>,
+    refusals: [usize; 16],
+    differ: usize,
+}
+
+/// The lines of a file, without their line feeds.
+fn lines(bytes: &[u8]) -> Vec<&[u8]> {
+    let mut lines: Vec<&[u8]> = bytes.split(|byte| *byte == b'\n').collect();
+    if lines.last().is_some_and(|line| line.is_empty()) {
+        lines.pop();
+    }
+    lines
+}
+
+/// A line for the eye: its beginning, if it is long.
+fn shown(line: &[u8]) -> String {
+    let text = String::from_utf8_lossy(&line[..line.len().min(SHOWN_BYTES)]).into_owned();
+    if line.len() > SHOWN_BYTES { format!("{text}... ({} bytes)", line.len()) } else { text }
+}
+
+/// The kind of a question line.
+fn question_kind(line: &[u8]) -> String {
+    let word = line.split(|byte| *byte == b' ').next().unwrap_or(&[]);
+    let known = ["judge", "probe", "phase", "command", "loop"];
+    known.iter().find(|kind| kind.as_bytes() == word).map_or("other".to_string(), |kind| kind.to_string())
+}
+
+/// The kind of an answer to a question of a kind.
+fn answer_kind(question: &str, answer: &str) -> String {
+    let words: Vec<&str> = answer.split(' ').collect();
+    match (words[0], words.get(2)) {
+        ("bad", _) => "bad line".to_string(),
+        ("clause", Some(&"0")) => "probe: clause, move_to".to_string(),
+        ("clause", Some(&"1")) => "probe: clause, do".to_string(),
+        ("clause", _) => "probe: clause, stay".to_string(),
+        ("handled", Some(&"0")) => "command: handled, nothing sent".to_string(),
+        ("handled", _) => "command: handled, something sent".to_string(),
+        (word, _) => format!("{question}: {word}"),
+    }
+}
+
+impl Tally {
+    /// Counts a question with its answer.
+    fn count(&mut self, question: &[u8], answer: &str) {
+        let kind = question_kind(question);
+        *self.answers.entry(answer_kind(&kind, answer)).or_default() += 1;
+        if let Some(rest) = answer.strip_prefix("refused ") {
+            let number = rest.split(' ').next().and_then(|word| word.parse().ok()).unwrap_or(0);
+            self.refusals[number] += 1;
+        }
+        *self.questions.entry(kind).or_default() += 1;
+    }
+
+    /// Compares one answer, and shows the first few that differ.
+    fn compare(&mut self, number: usize, question: &[u8], got: &[u8]) {
+        let expected = answer_line(question);
+        self.count(question, &expected);
+        if expected.as_bytes() != got {
+            self.differ += 1;
+            if self.differ <= SHOWN {
+                println!("line {number} differs\n  question {}", shown(question));
+                println!("  expected {}\n  got      {}", shown(expected.as_bytes()), shown(got));
+            }
+        }
+    }
+
+    /// Prints the counts.
+    fn print(&self) {
+        for (title, counts) in [("questions", &self.questions), ("answers", &self.answers)] {
+            println!("{title}");
+            for (kind, count) in counts {
+                println!("  {kind:<34}{count:>8}");
+            }
+        }
+        println!("refusal numbers");
+        for (number, count) in self.refusals.iter().enumerate().skip(1) {
+            println!("  {number:<34}{count:>8}");
+        }
+    }
+
+    /// The refusal numbers that were hit too seldom.
+    fn seldom(&self) -> Vec<usize> {
+        (1..16).filter(|number| self.refusals[*number] < FLOOR).collect()
+    }
+}
+
+/// Compares all answers; true when they agree and every refusal number was hit often enough.
+pub fn check(questions: &[u8], answers: &[u8]) -> bool {
+    let (questions, answers) = (lines(questions), lines(answers));
+    let mut tally = Tally::default();
+    for (at, (question, got)) in questions.iter().zip(&answers).enumerate() {
+        tally.compare(at + 1, question, got);
+    }
+    tally.print();
+    let mut good = tally.differ == 0;
+    if questions.len() != answers.len() {
+        println!("second: {} questions, but {} answers", questions.len(), answers.len());
+        good = false;
+    }
+    if questions.len() < FULL_RUN {
+        println!("second: fewer than {FULL_RUN} questions, so nothing is asked of the refusal numbers");
+    } else if !tally.seldom().is_empty() {
+        println!("second: hit fewer than {FLOOR} times: refusal numbers {:?}", tally.seldom());
+        good = false;
+    }
+    println!("second: {} questions compared, {} differ", questions.len().min(answers.len()), tally.differ);
+    good
+}

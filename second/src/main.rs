@@ -1,0 +1,72 @@
+//! The second program: random questions about class sheets, and their answers, from the rules alone.
+
+mod answering;
+mod asking;
+mod behaviour;
+mod checking;
+mod damage;
+mod judging;
+mod limits;
+mod lines;
+mod loops;
+mod making;
+mod random;
+mod shapes;
+#[cfg(test)]
+mod tests;
+mod tree;
+mod writing;
+
+use std::io::{BufRead, BufWriter, Error, Write};
+use std::process::ExitCode;
+
+const USAGE: &str = "usage: second make SEED COUNT            writes question lines
+       second answer                     reads question lines, writes the answers
+       second check QUESTIONS ANSWERS    compares the answers in a file with its own";
+
+/// Writes the questions of a run.
+fn make(seed: u64, count: u64) -> Result<ExitCode, Error> {
+    let mut out = BufWriter::new(std::io::stdout().lock());
+    for index in 0..count {
+        let mut line = making::make_line(seed, index);
+        line.push(b'\n');
+        out.write_all(&line)?;
+    }
+    out.flush()?;
+    Ok(ExitCode::SUCCESS)
+}
+
+/// Answers the questions on standard input.
+fn answer() -> Result<ExitCode, Error> {
+    let mut out = BufWriter::new(std::io::stdout().lock());
+    for line in std::io::stdin().lock().split(b'\n') {
+        writeln!(out, "{}", answering::answer_line(&line?))?;
+    }
+    out.flush()?;
+    Ok(ExitCode::SUCCESS)
+}
+
+/// Compares the answers in a file with our own.
+fn check(questions: &str, answers: &str) -> Result<ExitCode, Error> {
+    let good = checking::check(&std::fs::read(questions)?, &std::fs::read(answers)?);
+    Ok(if good { ExitCode::SUCCESS } else { ExitCode::from(1) })
+}
+
+/// Does what the words of the command line ask.
+fn main() -> ExitCode {
+    let words: Vec<String> = std::env::args().skip(1).collect();
+    let words: Vec<&str> = words.iter().map(String::as_str).collect();
+    let done = match words[..] {
+        ["make", seed, count] => match (seed.parse(), count.parse()) {
+            (Ok(seed), Ok(count)) => make(seed, count),
+            _ => Err(Error::other("SEED and COUNT are numbers")),
+        },
+        ["answer"] => answer(),
+        ["check", questions, answers] => check(questions, answers),
+        _ => Err(Error::other(USAGE)),
+    };
+    done.unwrap_or_else(|error| {
+        eprintln!("second: {error}");
+        ExitCode::from(2)
+    })
+}

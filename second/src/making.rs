@@ -1,0 +1,319 @@
+//! The mix of random questions.
+
+use crate::asking::{absent_class, bad_input, children_of, everyone, good, good_of_kind, short_command, NAMES_IN_PASSING};
+use crate::behaviour::{command, phase, Child, Phase};
+use crate::damage::{damage_contents, damage_length, damage_records, shift_counts};
+use crate::judging::judge;
+use crate::limits::{guards_of_depth, ifs_of_depth, large, many_names, pinned, shared};
+use crate::lines::{Question, LONGEST_LINE};
+use crate::random::Random;
+use crate::shapes::{class, Shape, Style, BUSY, CROWD, LADDER, RING, ROUND, SMALL, TALL, WHOLE};
+use crate::tree::{Class, Names};
+use crate::writing::bodies_of;
+
+/// Every so many questions comes one that takes long to answer or to send.
+const HEAVY_EVERY: u64 = 500;
+
+/// The line of one question of a run.
+pub fn make_line(seed: u64, index: u64) -> Vec<u8> {
+    let random = &mut Random::for_question(seed, index);
+    if index % HEAVY_EVERY == HEAVY_EVERY / 2 {
+        return heavy(random, index / HEAVY_EVERY).line().into_bytes();
+    }
+    let question = match random.below(200) {
+        0..=69 => accepted(random),
+        70..=75 => overlapping(random),
+        76..=80 => near_limit(random),
+        81..=140 => damaged(random),
+        141..=163 => wrongly_asked(random),
+        164..=180 => many_faults(random),
+        181..=188 => scattered(random),
+        189..=193 => shifted(random),
+        194 => big(random),
+        195 => twelve_names(random),
+        196 => one_configuration(random),
+        _ => return bad_line(random),
+    };
+    question.line().into_bytes()
+}
+
+/// A question about a good sheet of some shape.
+fn accepted(random: &mut Random) -> Question {
+    let shape = random.pick(&[SMALL, SMALL, WHOLE, WHOLE, LADDER, LADDER, RING, RING, RING, RING, BUSY, BUSY, BUSY, CROWD, CROWD, TALL, ROUND]);
+    let class = class(random, &shape);
+    let sheet = bodies_of(&class, random.chance(50)).sheet();
+    match shape.style {
+        Style::Anywhere if shape.statements.1 > 4 => good_of_kind(random, 3, sheet, &class),
+        Style::Anywhere => good(random, sheet, &class),
+        _ => {
+            let kind = random.pick(&[1, 2, 2, 4, 4, 4]);
+            good_of_kind(random, kind, sheet, &class)
+        }
+    }
+}
+
+/// A question about a sheet whose guards share records.
+fn overlapping(random: &mut Random) -> Question {
+    let sheet = shared(random).sheet();
+    match judge(&sheet) {
+        Ok(class) => good(random, sheet, &class),
+        Err(_) => Question::Judge { sheet },
+    }
+}
+
+/// A question about a sheet with a guard or an if as deep as allowed, one less or one more.
+fn near_limit(random: &mut Random) -> Question {
+    let class = match random.below(2) {
+        0 => { let depth = random.pick(&[15, 16, 16, 16, 17]); guards_of_depth(random, depth) }
+        _ => { let depth = random.pick(&[7, 8, 8, 8, 9]); ifs_of_depth(random, depth) }
+    };
+    let sheet = bodies_of(&class, random.chance(50)).sheet();
+    let kind = random.pick(&[0, 1, 2, 3, 3, 3]);
+    good_of_kind(random, kind, sheet, &class)
+}
+
+/// A question about a sheet with damage aimed at one rule.
+fn damaged(random: &mut Random) -> Question {
+    let rule = random.byte(1, 9);
+    let class = class(random, &WHOLE);
+    let mut bodies = bodies_of(&class, random.chance(50));
+    let sheet = match rule {
+        1 => damage_length(random, &bodies),
+        2 => damage_contents(random, &bodies),
+        _ => {
+            damage_records(random, rule, &class, &mut bodies);
+            bodies.sheet()
+        }
+    };
+    good(random, sheet, &class)
+}
+
+/// A question about a sheet with damage aimed at several rules; the question may be wrong as well.
+fn many_faults(random: &mut Random) -> Question {
+    let class = class(random, &WHOLE);
+    let mut bodies = bodies_of(&class, random.chance(50));
+    for _ in 0..random.between(1, 4) {
+        let rule = random.byte(3, 9);
+        damage_records(random, rule, &class, &mut bodies);
+    }
+    let sheet = match random.below(10) {
+        0 => damage_length(random, &bodies),
+        1 => damage_contents(random, &bodies),
+        _ => bodies.sheet(),
+    };
+    if random.chance(50) {
+        let rules = random.pick(&[[10, 10], [10, 11], [11, 12], [12, 12]]);
+        return bad_input(random, &rules, sheet, &class);
+    }
+    good(random, sheet, &class)
+}
+
+/// Changes a few bytes of a sheet at random.
+fn scatter(random: &mut Random, sheet: &mut [u8]) {
+    for _ in 0..random.pick(&[1, 1, 1, 2, 3]) {
+        let at = random.below(sheet.len());
+        sheet[at] = match random.below(4) {
+            0 => sheet[at].wrapping_add(1),
+            1 => sheet[at].wrapping_sub(1),
+            2 => sheet[at] ^ (1 << random.below(8)),
+            _ => random.byte(0, 255),
+        };
+    }
+}
+
+/// A question about a changed sheet: about the class it stands for now, or about the one it stood for.
+fn about_changed(random: &mut Random, sheet: Vec<u8>, before: &Class) -> Question {
+    match judge(&sheet) {
+        Ok(changed) => good(random, sheet, &changed),
+        Err(_) => good(random, sheet, before),
+    }
+}
+
+/// A question about a sheet in which a few bytes were changed at random.
+fn scattered(random: &mut Random) -> Question {
+    let class = class(random, &WHOLE);
+    let mut sheet = bodies_of(&class, random.chance(50)).sheet();
+    scatter(random, &mut sheet);
+    about_changed(random, sheet, &class)
+}
+
+/// A question about a sheet in which counts were moved from one record to another, so that every sum stays what it was.
+fn shifted(random: &mut Random) -> Question {
+    let class = class(random, &Shape { states: (2, 4), actions: (1, 2), statements: (1, 5), ..WHOLE });
+    let mut bodies = bodies_of(&class, random.chance(50));
+    shift_counts(random, &mut bodies);
+    about_changed(random, bodies.sheet(), &class)
+}
+
+/// A good sheet, but a question that breaks one or more of the rules 10 to 15.
+fn wrongly_asked(random: &mut Random) -> Question {
+    let shape = random.pick(&[SMALL, WHOLE, BUSY]);
+    let class = class(random, &shape);
+    let sheet = bodies_of(&class, true).sheet();
+    match random.below(12) {
+        0 | 1 => bad_input(random, &[10], sheet, &class),
+        2 => bad_input(random, &[11], sheet, &class),
+        3 => bad_input(random, &[12], sheet, &class),
+        4 => {
+            let rules = random.pick(&[[10, 11], [11, 12], [10, 12]]);
+            bad_input(random, &rules, sheet, &class)
+        }
+        5 | 6 => absent_class(random, sheet, &class, NAMES_IN_PASSING),
+        7 | 8 => too_many_names(random),
+        9 => everyone(random, sheet, &class, true),
+        _ => short_command(random, sheet, &class),
+    }
+}
+
+/// A loop question on 21 names or more, now and then with an absent class or a short buffer besides.
+fn too_many_names(random: &mut Random) -> Question {
+    let total = random.pick(&[21, 21, 22, 25, 32, 52]);
+    let class = many_names(random, total, &SMALL);
+    let sheet = bodies_of(&class, true).sheet();
+    match random.below(4) {
+        0 => absent_class(random, sheet, &class, usize::MAX),
+        1 => everyone(random, sheet, &class, true),
+        _ => everyone(random, sheet, &class, false),
+    }
+}
+
+/// A loop question on up to twelve names.
+fn twelve_names(random: &mut Random) -> Question {
+    let total = random.between(7, 12);
+    let shape = random.pick(&[RING, LADDER]);
+    let class = many_names(random, total, &Shape { states: (1, 4), depth: 2, ..shape });
+    let sheet = bodies_of(&class, true).sheet();
+    everyone(random, sheet, &class, false)
+}
+
+/// A loop question on a class in which one configuration alone makes a loop, or makes the most moves.
+fn one_configuration(random: &mut Random) -> Question {
+    let total = random.between(1, 12);
+    let class = pinned(random, total);
+    let sheet = bodies_of(&class, random.chance(50)).sheet();
+    everyone(random, sheet, &class, false)
+}
+
+/// A question about a large sheet, good or changed.
+fn big(random: &mut Random) -> Question {
+    let mut bodies = large(random);
+    let mut sheet = bodies.sheet();
+    let Ok(class) = judge(&sheet) else { return Question::Judge { sheet } };
+    match random.below(10) {
+        0..=5 => return good(random, sheet, &class),
+        6 | 7 => scatter(random, &mut sheet),
+        8 => sheet = damage_contents(random, &bodies),
+        _ => {
+            shift_counts(random, &mut bodies);
+            sheet = bodies.sheet();
+        }
+    }
+    about_changed(random, sheet, &class)
+}
+
+/// One of the questions that take long: many names, or many children.
+fn heavy(random: &mut Random, turn: u64) -> Question {
+    let few = Shape { states: (1, 2), clauses: (1, 2), depth: 1, actions: (0, 0), ..RING };
+    let steps = Shape { states: (2, 4), style: Style::Upwards, ..few };
+    let plain = Shape { states: (2, 2), clauses: (1, 1), depth: 0, style: Style::Upwards, ..few };
+    match turn % 40 {
+        0 => on_names(random, 20, &plain),
+        1 | 2 => on_names(random, 13, &few),
+        3 => on_names(random, 13, &steps),
+        4 | 5 => on_names(random, 14, &few),
+        6 => on_names(random, 14, &steps),
+        7 => on_names(random, 15, &few),
+        8 => on_names(random, 15, &steps),
+        9 => on_names(random, 16, &few),
+        10 => on_names(random, 16, &steps),
+        11 => on_names(random, 17, &steps),
+        12 => on_names(random, 18, &steps),
+        13 => on_names(random, 19, &few),
+        14 => on_names(random, 20, &few),
+        15..=17 => early_loop(random, 20),
+        18 => early_loop(random, 19),
+        19 => on_names(random, 21, &few),
+        20 => brimful(random, 0),
+        21 => brimful(random, 1),
+        22 => brimful(random, 2),
+        _ => long_list(random),
+    }
+}
+
+/// A loop question on exactly this many names.
+fn on_names(random: &mut Random, total: usize, shape: &Shape) -> Question {
+    let class = many_names(random, total, shape);
+    let sheet = bodies_of(&class, true).sheet();
+    everyone(random, sheet, &class, false)
+}
+
+/// A loop question on many names whose answer is a small configuration, if it is a loop at all.
+fn early_loop(random: &mut Random, total: usize) -> Question {
+    loop {
+        let class = many_names(random, total, &Shape { states: (2, 3), clauses: (2, 4), depth: 1, ..RING });
+        let first = |names: &Names| *names.iter().next().unwrap_or(&0);
+        let lowest: Vec<Child> = class.children.iter().zip(0..).map(|(names, number)| (number, first(names))).collect();
+        if matches!(phase(&class, &lowest, 0), Phase::Loop { .. }) {
+            let sheet = bodies_of(&class, true).sheet();
+            return everyone(random, sheet, &class, false);
+        }
+    }
+}
+
+/// A loop question on a line that is this much longer than a line may be.
+fn brimful(random: &mut Random, excess: usize) -> Question {
+    let class = class(random, &RING);
+    let sheet = bodies_of(&class, true).sheet();
+    let present = if excess % 2 == 0 { 1 } else { 10 };
+    let bare = Question::Loop { sheet: sheet.clone(), present, buffer: vec![0] }.line().len() - 2;
+    let buffer = random.bytes((LONGEST_LINE + excess - bare) / 2);
+    Question::Loop { sheet, present, buffer }
+}
+
+/// A question with as many children as there may be, or with places of more than one byte.
+fn long_list(random: &mut Random) -> Question {
+    let class = class(random, &Shape { statements: (1, 3), actions: (1, 2), ..WHOLE });
+    let sheet = bodies_of(&class, true).sheet();
+    let length = random.pick(&[4096, 4096, 4095, 1000]);
+    let list = children_of(random, &class, length);
+    let state = random.below(class.states.len()) as u8;
+    match random.below(5) {
+        0 => Question::Phase { sheet, list, state },
+        _ => long_command(random, sheet, &class, list, state),
+    }
+}
+
+/// A command to many children, with just enough room for it, or now and then a byte less.
+fn long_command(random: &mut Random, sheet: Vec<u8>, class: &Class, list: Vec<u8>, state: u8) -> Question {
+    let children: Vec<Child> = list.chunks(2).map(|pair| (pair[0], pair[1])).collect();
+    let asked = class.states[usize::from(state)].actions[0].command;
+    let room = command(class, &children, state, asked).sent.len();
+    let length = if random.chance(20) { room.saturating_sub(1) } else { room };
+    Question::Command { sheet, list, state, command: asked, buffer: random.bytes(length) }
+}
+
+/// A line that is no question, or that is a different one by accident.
+fn bad_line(random: &mut Random) -> Vec<u8> {
+    let class = class(random, &WHOLE);
+    let sheet = bodies_of(&class, true).sheet();
+    let mut line = good(random, sheet, &class).line().into_bytes();
+    let last = line.len() - 1;
+    match random.below(12) {
+        0 => line.clear(),
+        1 => line.insert(0, b' '),
+        2 => line.push(b' '),
+        3 => line.push(random.pick(b"\r\t;")),
+        4 => line[0] = random.pick(b"JxP\xff\x00"),
+        5 => line.extend_from_slice(b" 1"),
+        6 => line.truncate(line.iter().position(|byte| *byte == b' ').unwrap_or(0)),
+        7 => line.extend_from_slice(b" 00"),
+        8 => line[last] = random.pick(b"gA./:@`G\x80"),
+        9 => line.retain(|byte| *byte != b' '),
+        10 => line.truncate(random.below(line.len())),
+        _ => {
+            let at = random.below(line.len());
+            line.insert(at, random.pick(b" -gZ"));
+        }
+    }
+    line
+}
