@@ -1,0 +1,54 @@
+// A sheet judged once: its bytes with the places of its bodies, read without a copy. No function here but `place` and `cut` is
+// covered by the borrow checker, so each only makes the struct or takes it apart; callers go through `readers::body_of`.
+use crate::judging::Places;
+ghost use mathlib.Core.Path.{_≡_};
+ghost use Prim.Native.Nat.{_<_};
+ghost use Rattle.sheet.specs.Contents.{body};
+ghost use Rattle.sheet.specs.Judgement.{Stands};
+ghost use Rattle.sheet.specs.Runs.{place-at};
+
+// An accepted sheet, and where each of its bodies starts.
+pub struct Sheet<'a> {
+    pub bytes: &'a [u8],
+    pub places: Places,
+}
+
+// Where body k starts; past the last, the sheet's end.
+fn place(p: Places, end: usize, k: usize) -> usize
+    ensures { λ r. ⌜ r ≡ place-at p end k ⌝ }
+{
+    match k {
+        0 => p.classes,
+        1 => p.states,
+        2 => p.whens,
+        3 => p.guards,
+        4 => p.actions,
+        5 => p.statements,
+        _ => end,
+    }
+}
+
+// The work: the bytes from a body's place to the next.
+fn cut(bytes: &[u8], p: Places, k: usize) -> &[u8]
+    requires { ⌜ Stands (now bytes) p × (k < 6) ⌝ }
+    ensures { λ r. ⌜ now r ≡ body (now (bytes .entry)) k ⌝ }
+{
+    let from = place(p, bytes.len(), k);
+    let to = place(p, bytes.len(), k + 1);
+    &bytes[from..to]
+}
+
+// The sheet and its places, held together.
+pub fn hold<'a>(bytes: &'a [u8], places: Places) -> Sheet<'a>
+    ensures { λ r. ⌜ (r .bytes ≡ bytes .entry) × (r .places ≡ places) ⌝ }
+{
+    Sheet { bytes, places }
+}
+
+// Body k of the sheet that is held.
+pub fn body_in<'a>(s: Sheet<'a>, k: usize) -> &'a [u8]
+    requires { ⌜ Stands (now (s .bytes)) (s .places) × (k < 6) ⌝ }
+    ensures { λ r. ⌜ now r ≡ body (now (s .entry .bytes)) k ⌝ }
+{
+    cut(s.bytes, s.places, k)
+}
