@@ -5,3 +5,4 @@ pub mod Reading
 pub mod Sound
 pub mod ReaderLaws
 pub mod JudgeLaws
+pub mod HeldLaws

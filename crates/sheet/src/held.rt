@@ -1,11 +1,16 @@
-// A sheet judged once: its bytes with the places of its bodies, read without a copy. No function here but `place` and `cut` is
-// covered by the borrow checker, so each only makes the struct or takes it apart; callers go through `readers::body_of`.
+// A sheet judged once: its bytes with the places of its bodies, read without a copy. The borrow checker covers no function over the
+// struct, so those only make it or take it apart and leave the work to `cut` and `clauses_at`. `readers` has the same with plain parameters.
 use crate::judging::Places;
+use crate::readers::Run;
+use crate::readers::STATES;
+use bodies::clauses::count_at;
+use bodies::clauses::count_sum;
+use model::OwnState;
 ghost use mathlib.Core.Path.{_≡_};
 ghost use Prim.Native.Nat.{_<_};
 ghost use Rattle.sheet.specs.Contents.{body};
 ghost use Rattle.sheet.specs.Judgement.{Stands};
-ghost use Rattle.sheet.specs.Runs.{place-at};
+ghost use Rattle.sheet.specs.Runs.{place-at, RunIs};
 
 // An accepted sheet, and where each of its bodies starts.
 pub struct Sheet<'a> {
@@ -38,6 +43,18 @@ fn cut(bytes: &[u8], p: Places, k: usize) -> &[u8]
     &bytes[from..to]
 }
 
+// The work: state q's when clauses, or its action clauses, by the offset of their count.
+fn clauses_at(bytes: &[u8], p: Places, q: OwnState, offset: usize) -> Run
+    requires { ⌜ Stands (now bytes) p × (offset < 4) ⌝ }
+    ensures { λ r. ⌜ RunIs r (body (now (bytes .entry)) 1) offset (q .0) ⌝ }
+{
+    let states = cut(bytes, p, STATES);
+    let i = q.0 as usize;
+    let first = count_sum(states, offset, i);
+    let count = count_at(states, offset, i);
+    Run { first, count }
+}
+
 // The sheet and its places, held together.
 pub fn hold<'a>(bytes: &'a [u8], places: Places) -> Sheet<'a>
     ensures { λ r. ⌜ (r .bytes ≡ bytes .entry) × (r .places ≡ places) ⌝ }
@@ -51,4 +68,12 @@ pub fn body_in<'a>(s: Sheet<'a>, k: usize) -> &'a [u8]
     ensures { λ r. ⌜ now r ≡ body (now (s .entry .bytes)) k ⌝ }
 {
     cut(s.bytes, s.places, k)
+}
+
+// State q's when clauses, or its action clauses, in the sheet that is held.
+pub fn clauses_in<'a>(s: Sheet<'a>, q: OwnState, offset: usize) -> Run
+    requires { ⌜ Stands (now (s .bytes)) (s .places) × (offset < 4) ⌝ }
+    ensures { λ r. ⌜ RunIs r (body (now (s .entry .bytes)) 1) offset (q .0) ⌝ }
+{
+    clauses_at(s.bytes, s.places, q, offset)
 }

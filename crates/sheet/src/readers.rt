@@ -1,10 +1,9 @@
 // Readers of an accepted sheet over its places: the six bodies, how many own states and child classes there are, and where a state's
 // clauses stand. The floors above speak of these, never of byte offsets.
 use crate::held::body_in;
+use crate::held::clauses_in;
 use crate::held::hold;
 use crate::judging::Places;
-use bodies::clauses::count_at;
-use bodies::clauses::count_sum;
 use model::OwnState;
 ghost use mathlib.Core.Path.{_≡_};
 ghost use Prim.Native.Nat.{_<_, _≤_};
@@ -66,9 +65,5 @@ pub fn clauses_of(sheet: &[u8], p: Places, q: OwnState, offset: usize) -> Run
     requires { ⌜ Stands (now sheet) p × (offset < 4) ⌝ }
     ensures { λ r. ⌜ RunIs r (body (now (sheet .entry)) 1) offset (q .0) ⌝ }
 {
-    let states = body_of(sheet, p, STATES);
-    let i = q.0 as usize;
-    let first = count_sum(states, offset, i);
-    let count = count_at(states, offset, i);
-    Run { first, count }
+    clauses_in(hold(sheet, p), q, offset)
 }
