@@ -7,3 +7,4 @@ pub mod ReaderLaws
 pub mod JudgeLaws
 pub mod PlaceLaws
 pub mod VerdictLaws
+pub mod HeldLaws

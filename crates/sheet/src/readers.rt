@@ -1,15 +1,16 @@
 // Readers of an accepted sheet over its places: the six bodies, how many own states and child classes there are, and where a state's
 // clauses stand. The floors above speak of these, never of byte offsets.
+use crate::held::body_in;
+use crate::held::clauses_in;
+use crate::held::hold;
 use crate::judging::Places;
-use bodies::clauses::count_at;
-use bodies::clauses::count_sum;
 use model::OwnState;
 ghost use mathlib.Core.Path.{_≡_};
 ghost use Prim.Native.Nat.{_<_, _≤_};
 ghost use Rattle.sheet.specs.Contents.{body};
 ghost use Rattle.bodies.specs.Clauses.{in-fours};
 ghost use Rattle.sheet.specs.Judgement.{Stands};
-ghost use Rattle.sheet.specs.Runs.{place-at, RunIs};
+ghost use Rattle.sheet.specs.Runs.{RunIs};
 
 // Bodies by their number in the contents.
 pub const CLASSES: usize = 0;
@@ -29,29 +30,12 @@ pub const WHEN_CLAUSES: usize = 0;
 
 pub const ACTION_CLAUSES: usize = 2;
 
-// Where body k starts; past the last, the sheet's end.
-fn place(p: Places, end: usize, k: usize) -> usize
-    ensures { λ r. ⌜ r ≡ place-at p end k ⌝ }
-{
-    match k {
-        0 => p.classes,
-        1 => p.states,
-        2 => p.whens,
-        3 => p.guards,
-        4 => p.actions,
-        5 => p.statements,
-        _ => end,
-    }
-}
-
 // Body k of an accepted sheet.
 pub fn body_of(sheet: &[u8], p: Places, k: usize) -> &[u8]
     requires { ⌜ Stands (now sheet) p × (k < 6) ⌝ }
     ensures { λ r. ⌜ now r ≡ body (now (sheet .entry)) k ⌝ }
 {
-    let from = place(p, sheet.len(), k);
-    let to = place(p, sheet.len(), k + 1);
-    &sheet[from..to]
+    body_in(hold(sheet, p), k)
 }
 
 // The number of own states, S.
@@ -81,9 +65,5 @@ pub fn clauses_of(sheet: &[u8], p: Places, q: OwnState, offset: usize) -> Run
     requires { ⌜ Stands (now sheet) p × (offset < 4) ⌝ }
     ensures { λ r. ⌜ RunIs r (body (now (sheet .entry)) 1) offset (q .0) ⌝ }
 {
-    let states = body_of(sheet, p, STATES);
-    let i = q.0 as usize;
-    let first = count_sum(states, offset, i);
-    let count = count_at(states, offset, i);
-    Run { first, count }
+    clauses_in(hold(sheet, p), q, offset)
 }
