@@ -11,8 +11,8 @@ use Rattle.model.specs.Commands.{Sent, handled, ignored, command}
 use Rattle.sheet.specs.Rules.{Accepted}
 use Rattle.sheet.specs.Reading.{class-of}
 use Rattle.sheet.specs.ChildList.{children-of, pairs, sent-bytes, written}
-use Rattle.loops.specs.Configurations.{name-count, list-of}
-use Rattle.loops.specs.LoopAnswer.{loop, free, loop-answer}
+use Rattle.configurations.specs.Configurations.{name-count, list-of}
+use Rattle.configurations.specs.LoopAnswer.{loop, free, loop-answer}
 use Rattle.bargewicker.specs.Questions.{Question, Reply, refuse, give, commanded, looped, command-in, loop-with, placed, reply, reply-command, reply-loop, lent, buffer-after, present-right, bytes-of-handling, bytes-of-loops}
 use Rattle.bargewicker.specs.Numbers.{numbers, values, handling-numbers, Answered}
 use Rattle.bargewicker.proofs.FaceLaws.{asked, command-over, command-short, command-given, loop-bit, loop-many, loop-short, loop-given}

@@ -12,10 +12,10 @@ use Rattle.sheet.specs.Rules.{Accepted}
 use Rattle.sheet.specs.Reading.{class-of}
 use Rattle.sheet.specs.ChildList.{pairs, written}
 use Rattle.sheet.proofs.Sound.{sound}
-use Rattle.loops.specs.Configurations.{name-count, list-of}
-use Rattle.loops.specs.LoopAnswer.{Loops, loop, free, loop-answer}
-use Rattle.loops.specs.Demand.{Demanded}
-use Rattle.loops.proofs.Demand.{demanded}
+use Rattle.configurations.specs.Configurations.{name-count, list-of}
+use Rattle.configurations.specs.LoopAnswer.{Loops, loop, free, loop-answer}
+use Rattle.configurations.specs.Demand.{Demanded}
+use Rattle.configurations.proofs.Demand.{demanded}
 use Rattle.bargewicker.specs.Questions.{loop-with, present-right}
 use Rattle.bargewicker.specs.Numbers.{Answered}
 use Rattle.bargewicker.specs.Answers.{loop-answer-numbers}

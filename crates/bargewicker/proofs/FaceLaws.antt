@@ -15,8 +15,8 @@ use Rattle.model.specs.Commands.{Handling, command}
 use Rattle.sheet.specs.Rules.{refusal, Accepted}
 use Rattle.sheet.specs.Reading.{class-of}
 use Rattle.sheet.specs.ChildList.{children-of, list-right}
-use Rattle.loops.specs.Configurations.{name-count}
-use Rattle.loops.specs.LoopAnswer.{Loops, loop-answer}
+use Rattle.configurations.specs.Configurations.{name-count}
+use Rattle.configurations.specs.LoopAnswer.{Loops, loop-answer}
 use Rattle.bargewicker.specs.Questions.{Reply, refuse, give, commanded, looped, judged, placed, reply-command, reply-loop, present-right, bytes-of-handling, bytes-of-loops}
 use Rattle.bargewicker.specs.Placing.{placed-refusal}
 

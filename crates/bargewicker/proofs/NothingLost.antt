@@ -20,10 +20,10 @@ use Rattle.sheet.specs.Reading.{class-of}
 use Rattle.sheet.specs.ChildList.{children-of, list-right}
 use Rattle.sheet.proofs.VerdictLaws.{refusal-most}
 use Rattle.sheet.proofs.Sound.{sound}
-use Rattle.loops.specs.Configurations.{name-count}
-use Rattle.loops.specs.LoopAnswer.{Loops, loop, free, loop-answer}
-use Rattle.loops.specs.Demand.{AnswerRight}
-use Rattle.loops.proofs.Demand.{demanded}
+use Rattle.configurations.specs.Configurations.{name-count}
+use Rattle.configurations.specs.LoopAnswer.{Loops, loop, free, loop-answer}
+use Rattle.configurations.specs.Demand.{AnswerRight}
+use Rattle.configurations.proofs.Demand.{demanded}
 use Rattle.bargewicker.specs.Questions.{accepted, judge, probe-in, phase-from, command-in, loop-with, Reply, refuse, give, probed, phased, commanded, looped, check, judged, placed, reply, reply-command, reply-loop, bytes-of-handling, bytes-of-loops, present-right}
 use Rattle.bargewicker.specs.Numbers.{numbers, values, handling-numbers}
 use Rattle.bargewicker.specs.Packed.{Field, word, unpacked, packed, kinds-of-probe, kinds-of-phase, kinds-of-command, kinds-of-loop, NothingLost}

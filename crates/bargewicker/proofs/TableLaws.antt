@@ -16,8 +16,8 @@ use Rattle.model.proofs.Words.{and-left, and-right}
 use Rattle.sheet.specs.Rules.{refusal, refusal-in}
 use Rattle.sheet.specs.Reading.{class-of}
 use Rattle.sheet.specs.ChildList.{children-of, list-right, sent-bytes}
-use Rattle.loops.specs.Configurations.{name-count}
-use Rattle.loops.specs.LoopAnswer.{loop-answer}
+use Rattle.configurations.specs.Configurations.{name-count}
+use Rattle.configurations.specs.LoopAnswer.{loop-answer}
 use Rattle.bargewicker.specs.Questions.{Question, judge, probe-in, phase-from, command-in, loop-with, Answer, commanded, looped, Reply, refuse, give, check, judged, placed, reply, reply-command, reply-loop, present-right, bytes-of-handling, bytes-of-loops}
 use Rattle.bargewicker.specs.Table.{Check, rule, first-failed, body-checks, sheet-checks, place-checks, sent-by, command-checks, loop-checks, table}
 

@@ -24,8 +24,8 @@ use Rattle.sheet.specs.Reading.{class-of}
 use Rattle.sheet.specs.ChildList.{children-of, list-right, pairs, sent-bytes, written}
 use Rattle.node.specs.declared.probing.Ending.{Ending}
 use Rattle.node.specs.declared.probing.Ending.the-variants.{ByNone, ByStay, ByDo}
-use Rattle.loops.specs.Configurations.{name-count}
-use Rattle.loops.specs.Demand.{AllEnd, FreeRight, LoopRight}
+use Rattle.configurations.specs.Configurations.{name-count}
+use Rattle.configurations.specs.Demand.{AllEnd, FreeRight, LoopRight}
 use Rattle.bargewicker.specs.Questions.{Question, judge, probe-in, phase-from, command-in, loop-with, lent, present-right}
 use Rattle.bargewicker.specs.Promises.{AnswerTo, refusing, Promised}
 use Rattle.bargewicker.specs.Table.{table, first-failed}

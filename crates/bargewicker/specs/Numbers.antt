@@ -7,7 +7,7 @@ use lib.ListN.{length}
 use Rattle.model.specs.Tree.{Referrer, move-to, run, stay}
 use Rattle.model.specs.Node.{Probed, nothing, found, Phase, settled, loops, Ending, by-none, by-stay, by-do}
 use Rattle.model.specs.Commands.{Handling, handled, ignored}
-use Rattle.loops.specs.LoopAnswer.{Loops, loop, free}
+use Rattle.configurations.specs.LoopAnswer.{Loops, loop, free}
 use Rattle.bargewicker.specs.Questions.{Question, lent, reply, buffer-after, Answer, accepted, probed, phased, commanded, looped, Reply, refuse, give, bytes-of-handling}
 
 -- 0 MOVE_TO, 1 DO, 2 STAY, and the target

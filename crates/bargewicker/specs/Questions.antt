@@ -13,8 +13,8 @@ use Rattle.model.specs.Crews.{child-classes}
 use Rattle.sheet.specs.Rules.{refusal}
 use Rattle.sheet.specs.Reading.{class-of}
 use Rattle.sheet.specs.ChildList.{children-of, list-right, pairs, sent-bytes, written}
-use Rattle.loops.specs.Configurations.{name-count}
-use Rattle.loops.specs.LoopAnswer.{Loops, loop, free, loop-answer}
+use Rattle.configurations.specs.Configurations.{name-count}
+use Rattle.configurations.specs.LoopAnswer.{Loops, loop, free, loop-answer}
 
 -- a sheet; beside it the child list, the asked state, the asked command, the present classes, the lent buffer
 pub data Question : Type 0 where

@@ -14,7 +14,7 @@ use Rattle.bodies.specs.BodyRules.{classes-right, counts-right, records-right, 
 use Rattle.sheet.specs.Contents.{Bodies, bodies, length-right, contents-right}
 use Rattle.sheet.specs.Reading.{class-of}
 use Rattle.sheet.specs.ChildList.{children-of, list-right}
-use Rattle.loops.specs.Configurations.{name-count}
+use Rattle.configurations.specs.Configurations.{name-count}
 use Rattle.bargewicker.specs.Questions.{Question, judge, probe-in, phase-from, command-in, loop-with, present-right}
 
 -- a check: its number in the table, and whether the input passes it

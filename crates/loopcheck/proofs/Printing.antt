@@ -16,8 +16,8 @@ use Rattle.model.specs.declared.OwnState.{OwnState}
 use Rattle.model.proofs.Lists.{length-listed}
 use Rattle.sheet.specs.Reading.{class-of}
 use Rattle.sheet.specs.ChildList.{children-of, pairs, written}
-use Rattle.loops.specs.Configurations.{cells, list-of}
-use Rattle.loops.specs.LoopAnswer.{loop, free}
+use Rattle.configurations.specs.Configurations.{cells, list-of}
+use Rattle.configurations.specs.LoopAnswer.{loop, free}
 use Rattle.bargewicker.specs.Questions.{looped, Reply, refuse, give, loop-with, reply, judged, reply-loop, buffer-after}
 use Rattle.bargewicker.specs.Numbers.{numbers, Answered}
 use Rattle.bargewicker.specs.Answers.{loop-answer-numbers}

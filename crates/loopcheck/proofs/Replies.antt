@@ -18,8 +18,8 @@ use Rattle.model.proofs.Words.{clash, least-some}
 use Rattle.sheet.specs.Rules.{refusal}
 use Rattle.sheet.specs.Reading.{class-of}
 use Rattle.sheet.specs.ChildList.{pairs}
-use Rattle.loops.specs.Configurations.{name-count, chosen, list-of}
-use Rattle.loops.specs.LoopAnswer.{Loops, loop, free, returning, has-loop, longest-in, loop-in, loop-answer}
+use Rattle.configurations.specs.Configurations.{name-count, chosen, list-of}
+use Rattle.configurations.specs.LoopAnswer.{Loops, loop, free, returning, has-loop, longest-in, loop-in, loop-answer}
 use Rattle.bargewicker.specs.Questions.{looped, Reply, refuse, give, check, loop-with, reply, judged, reply-loop, present-right, bytes-of-loops}
 use Rattle.bargewicker.specs.Numbers.{numbers, values}
 

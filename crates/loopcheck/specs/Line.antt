@@ -9,7 +9,7 @@ use Rattle.model.specs.Words.{listed}
 use Rattle.model.specs.Tree.{Child}
 use Rattle.model.specs.Crews.{child-classes}
 use Rattle.sheet.specs.Reading.{class-of}
-use Rattle.loops.specs.LoopAnswer.{Loops, loop, free}
+use Rattle.configurations.specs.LoopAnswer.{Loops, loop, free}
 use Rattle.bargewicker.specs.Questions.{Answer, accepted, probed, phased, commanded, looped, Reply, refuse, give, loop-with, reply}
 use Rattle.texts.specs.Texts.{decimal-text, number-text}
 

@@ -26,7 +26,7 @@ use Rattle.sheet.proofs.Contents.{counted}
 use Rattle.sheet.proofs.Reading.{child-classes-in, name-set-in}
 use Rattle.sheet.proofs.ReaderLaws.{stands-right}
 use Rattle.node.specs.Sets.{Small}
-use Rattle.loops.specs.Configurations.{cell, cells}
+use Rattle.configurations.specs.Configurations.{cell, cells}
 use Rattle.loops.specs.Cells.{cell-present, present-among, present-cells, Spreads, counts-on}
 use Rattle.loops.proofs.CellLaws.{cell-past}
 

@@ -1,5 +1,3 @@
-pub mod Computing
-pub mod Configurations
 pub mod CellLaws
 pub mod SpreadLaws
 pub mod CellsAgree
@@ -7,4 +5,3 @@ pub mod ChaseLaws
 pub mod WalkLaws
 pub mod TableLaws
 pub mod SearchLaws
-pub mod Demand

@@ -29,8 +29,8 @@ use Rattle.bodies.proofs.Bits.{has-half}
 use Rattle.node.specs.Sets.{Small}
 use Rattle.node.proofs.BitLaws.{has-zero}
 use Rattle.node.proofs.CrewLaws.{shifted}
-use Rattle.loops.specs.Configurations.{cells, name-count, chosen, list-of}
-use Rattle.loops.specs.LoopAnswer.{free, returning, counts, has-loop, longest, longest-in, loop-answer}
+use Rattle.configurations.specs.Configurations.{cells, name-count, chosen, list-of}
+use Rattle.configurations.specs.LoopAnswer.{free, returning, counts, has-loop, longest, longest-in, loop-answer}
 use Rattle.loops.specs.Cells.{held, CellsAre, Spreads, counts-on}
 use Rattle.loops.specs.Chase.{table-next, Tabulates, move-count, Chased}
 use Rattle.loops.specs.Search.{Held, Configured, Searched}
@@ -39,7 +39,7 @@ use Rattle.loops.specs.declared.chase.Table.{Table}
 use Rattle.loops.specs.declared.chase.Found.{Found}
 use Rattle.loops.specs.declared.chase.Found.the-variants.{Loop, Longest}
 use Rattle.loops.specs.declared.search.Answer.the-variants.{Loop as LoopAt, Free}
-use Rattle.loops.proofs.Configurations.{chosen-mem, belongs-low, mem-cells}
+use Rattle.configurations.proofs.Configurations.{chosen-mem, belongs-low, mem-cells}
 use Rattle.loops.proofs.CellsAgree.{classes-most, cells-agree, counts-agree}
 use Rattle.loops.proofs.TableLaws.{phase-moves, states-are}
 use Rattle.loops.proofs.ChaseLaws.{Passing, passing-found}

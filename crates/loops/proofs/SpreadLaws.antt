@@ -20,7 +20,7 @@ use Rattle.model.proofs.Words.{each-broken, each-so-far, each-all, true-not-fal
 use Rattle.bodies.proofs.Bits.{has-none}
 use Rattle.node.specs.Sets.{Shows}
 use Rattle.node.proofs.CrewLaws.{shifted, shows-more}
-use Rattle.loops.specs.Configurations.{chosen}
+use Rattle.configurations.specs.Configurations.{chosen}
 use Rattle.loops.specs.Cells.{held, Spreads, counts-on}
 use Rattle.loops.proofs.CellLaws.{set-small, zeros-small}
 

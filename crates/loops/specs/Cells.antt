@@ -10,7 +10,7 @@ use Rattle.model.specs.Words.{has, each, keep, listed}
 use Rattle.model.specs.Tree.{Child}
 use Rattle.bodies.specs.Clauses.{in-fours, name-set}
 use Rattle.node.specs.Sets.{Shows}
-use Rattle.loops.specs.Configurations.{cell}
+use Rattle.configurations.specs.Configurations.{cell}
 use Rattle.loops.specs.declared.cells.Cells.{Cells}
 
 -- the class is the sheet's and present, and the name is in it

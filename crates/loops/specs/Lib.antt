@@ -1,6 +1,3 @@
-pub mod Configurations
-pub mod LoopAnswer
-pub mod Demand
 pub mod Cells
 pub mod Chase
 pub mod Search

@@ -8,8 +8,8 @@ use mathlib.Core.Option.{some}
 use Rattle.model.specs.Words.{has}
 use Rattle.model.specs.Crews.{child-classes}
 use Rattle.sheet.specs.Reading.{class-of}
-use Rattle.loops.specs.Configurations.{cells, list-of}
-use Rattle.loops.specs.LoopAnswer.{Loops, loop, free, returning, has-loop, longest-in, loop-answer}
+use Rattle.configurations.specs.Configurations.{cells, list-of}
+use Rattle.configurations.specs.LoopAnswer.{Loops, loop, free, returning, has-loop, longest-in, loop-answer}
 use Rattle.loops.specs.Cells.{AllSmall, cells-of}
 use Rattle.loops.specs.declared.cells.Cells.{Cells}
 use Rattle.loops.specs.declared.chase.Found.{Found}

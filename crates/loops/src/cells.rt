@@ -7,7 +7,7 @@ use node::crews::with_name;
 ghost use mathlib.Core.Path.{_≡_};
 ghost use Prim.Native.Nat.{_<_, _≤_, _/_, _%_};
 ghost use lib.ListN.{length, getD};
-ghost use Rattle.loops.specs.Configurations.{chosen};
+ghost use Rattle.configurations.specs.Configurations.{chosen};
 ghost use Rattle.loops.specs.Cells.{cell-present, AllSmall, CellsAre, cells-of, Spreads, counts-on};
 
 // The class and the name of each bit; where there are more than 20, only their number is right.

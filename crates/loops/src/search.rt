@@ -13,7 +13,7 @@ ghost use Prim.Native.Nat.{_*_, _≤_};
 ghost use lib.ListN.{length};
 ghost use Rattle.sheet.specs.Judgement.{Stands};
 ghost use Rattle.sheet.specs.ChildList.{pairs, written};
-ghost use Rattle.loops.specs.Configurations.{chosen};
+ghost use Rattle.configurations.specs.Configurations.{chosen};
 ghost use Rattle.loops.specs.Cells.{cells-of};
 ghost use Rattle.loops.specs.Search.{Held, Configured, Searched};
 

@@ -3,7 +3,7 @@
 use borrow.Author.Needs.{needs}
 use Prim.Native.Nat.{_-_, _≤_}
 use Rattle.sheet.specs.Reading.{class-of}
-use Rattle.loops.specs.LoopAnswer.{has-loop, longest-in}
+use Rattle.configurations.specs.LoopAnswer.{has-loop, longest-in}
 use Rattle.loops.proofs.ChaseLaws.{Passing, passing-start, passing-more, passing-same}
 use Rattle.loops.proofs.SearchLaws.{all-configurations, found-longest, searched-loop, searched-free}
 use Rattle.loops.proofs.search.search.Statement.{statement}

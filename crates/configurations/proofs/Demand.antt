@@ -17,10 +17,10 @@ use Rattle.model.proofs.Words.{clash, true-not-false, and-left, and-right, and-
 use Rattle.model.proofs.Moves.{after-within, never-if-returns, decided}
 use Rattle.model.proofs.Occupancy.{next-same}
 use Rattle.model.proofs.Phase.{next-within, phase-settled, phase-loops}
-use Rattle.loops.specs.Configurations.{name-count, list-of}
-use Rattle.loops.specs.LoopAnswer.{free, returning, counts, has-loop, longest, longest-in, loop-in, loop-answer}
-use Rattle.loops.specs.Demand.{FreeRight, LoopRight, Demanded}
-use Rattle.loops.proofs.Configurations.{fits-counts, configured, some-counts}
+use Rattle.configurations.specs.Configurations.{name-count, list-of}
+use Rattle.configurations.specs.LoopAnswer.{free, returning, counts, has-loop, longest, longest-in, loop-in, loop-answer}
+use Rattle.configurations.specs.Demand.{FreeRight, LoopRight, Demanded}
+use Rattle.configurations.proofs.Configurations.{fits-counts, configured, some-counts}
 
 -- the largest number of moves over all configurations and states
 abbrev most-moves : Class → ℕ → ℕ

@@ -9,7 +9,7 @@ use Rattle.model.specs.Tree.{Child, Class}
 use Rattle.model.specs.Moves.{returns-soon}
 use Rattle.model.specs.Node.{own-states, next, phase, moves-of}
 use Rattle.model.specs.Crews.{all-occur}
-use Rattle.loops.specs.Configurations.{name-count, list-of}
+use Rattle.configurations.specs.Configurations.{name-count, list-of}
 
 -- loop: configuration, own state, list; free: the largest number of moves
 pub data Loops : Type 0 where

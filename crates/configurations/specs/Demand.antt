@@ -9,8 +9,8 @@ use Rattle.model.specs.Tree.{Child, Class}
 use Rattle.model.specs.Moves.{EndsAt, Ends, Returns}
 use Rattle.model.specs.Node.{own-states, next}
 use Rattle.model.specs.Crews.{fits}
-use Rattle.loops.specs.Configurations.{name-count, list-of}
-use Rattle.loops.specs.LoopAnswer.{Loops, loop, free}
+use Rattle.configurations.specs.Configurations.{name-count, list-of}
+use Rattle.configurations.specs.LoopAnswer.{Loops, loop, free}
 
 -- for every child list in which exactly the present classes occur, the when phase ends from every state
 abbrev pub AllEnd : Class → ℕ → Type 0

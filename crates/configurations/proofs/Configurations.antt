@@ -16,8 +16,8 @@ use Rattle.model.specs.Sound.{Sound}
 use Rattle.model.proofs.Words.{and-left, and-right, and-both, each-intro}
 use Rattle.model.proofs.Lists.{listed-mem, every-elim, every-intro, some-in-intro, keep-mem, mem-keep}
 use Rattle.model.proofs.Occupancy.{mem-occupied, occupied-mem, covered-same, all-occur-same}
-use Rattle.loops.specs.Configurations.{cell, cells, name-count, chosen, list-of}
-use Rattle.loops.specs.LoopAnswer.{counts}
+use Rattle.configurations.specs.Configurations.{cell, cells, name-count, chosen, list-of}
+use Rattle.configurations.specs.LoopAnswer.{counts}
 
 abbrev bit : Bool → ℕ
 bit true = 1

@@ -1,0 +1,3 @@
+pub mod Configurations
+pub mod LoopAnswer
+pub mod Demand
