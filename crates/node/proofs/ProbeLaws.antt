@@ -23,7 +23,7 @@ use Rattle.sheet.specs.Reading.{when-in, action-in, state-in, class-in, class-o
 use Rattle.bodies.specs.Referrers.{reads-as}
 use Rattle.sheet.specs.Runs.{RunIs}
 use Rattle.sheet.specs.declared.judging.Places.{Places}
-use Rattle.sheet.specs.declared.readers.Run.{Run}
+use Rattle.sheet.specs.declared.held.Run.{Run}
 use Rattle.bodies.specs.declared.clauses.Referrer.the-variants.{MoveTo, Do, Stay}
 use Rattle.bodies.specs.declared.clauses.Referrer.{Referrer}
 use Rattle.sheet.proofs.Contents.{counted}

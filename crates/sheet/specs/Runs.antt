@@ -6,7 +6,7 @@ use mathlib.Core.List.{List, [], _∷_}
 use lib.ListN.{getD}
 use Rattle.bodies.specs.Clauses.{count-at, count-sum}
 use Rattle.sheet.specs.declared.judging.Places.{Places}
-use Rattle.sheet.specs.declared.readers.Run.{Run}
+use Rattle.sheet.specs.declared.held.Run.{Run}
 
 -- where body k starts; past the last, the end
 abbrev pub place-at : Places → ℕ → ℕ → ℕ

@@ -1,8 +1,6 @@
 // A sheet judged once: its bytes with the places of its bodies, read without a copy. The borrow checker covers no function over the
 // struct, so those only make it or take it apart and leave the work to `cut` and `clauses_at`. `readers` has the same with plain parameters.
 use crate::judging::Places;
-use crate::readers::Run;
-use crate::readers::STATES;
 use bodies::clauses::count_at;
 use bodies::clauses::count_sum;
 use model::OwnState;
@@ -12,10 +10,34 @@ ghost use Rattle.sheet.specs.Contents.{body};
 ghost use Rattle.sheet.specs.Judgement.{Stands};
 ghost use Rattle.sheet.specs.Runs.{place-at, RunIs};
 
+// Bodies by their number in the contents.
+pub const CLASSES: usize = 0;
+
+pub const STATES: usize = 1;
+
+pub const WHENS: usize = 2;
+
+pub const GUARDS: usize = 3;
+
+pub const ACTIONS: usize = 4;
+
+pub const STATEMENTS: usize = 5;
+
+// The offsets of a state's two counts.
+pub const WHEN_CLAUSES: usize = 0;
+
+pub const ACTION_CLAUSES: usize = 2;
+
 // An accepted sheet, and where each of its bodies starts.
 pub struct Sheet<'a> {
     pub bytes: &'a [u8],
     pub places: Places,
+}
+
+// Clauses that stand together: the first of them, and how many there are.
+pub struct Run {
+    pub first: usize,
+    pub count: usize,
 }
 
 // Where body k starts; past the last, the sheet's end.

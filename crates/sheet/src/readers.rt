@@ -1,5 +1,8 @@
 // Readers of an accepted sheet over its places: the six bodies, how many own states and child classes there are, and where a state's
 // clauses stand. The floors above speak of these, never of byte offsets.
+use crate::held::CLASSES;
+use crate::held::Run;
+use crate::held::STATES;
 use crate::held::body_in;
 use crate::held::clauses_in;
 use crate::held::hold;
@@ -11,24 +14,6 @@ ghost use Rattle.sheet.specs.Contents.{body};
 ghost use Rattle.bodies.specs.Clauses.{in-fours};
 ghost use Rattle.sheet.specs.Judgement.{Stands};
 ghost use Rattle.sheet.specs.Runs.{RunIs};
-
-// Bodies by their number in the contents.
-pub const CLASSES: usize = 0;
-
-pub const STATES: usize = 1;
-
-pub const WHENS: usize = 2;
-
-pub const GUARDS: usize = 3;
-
-pub const ACTIONS: usize = 4;
-
-pub const STATEMENTS: usize = 5;
-
-// The offsets of a state's two counts.
-pub const WHEN_CLAUSES: usize = 0;
-
-pub const ACTION_CLAUSES: usize = 2;
 
 // Body k of an accepted sheet.
 pub fn body_of(sheet: &[u8], p: Places, k: usize) -> &[u8]
@@ -52,12 +37,6 @@ pub fn class_count(sheet: &[u8], p: Places) -> usize
     ensures { λ r. ⌜ (r ≡ in-fours (body (now (sheet .entry)) 0)) × (r ≤ 8) ⌝ }
 {
     body_of(sheet, p, CLASSES).len() / 4
-}
-
-// Clauses that stand together: the first of them, and how many there are.
-pub struct Run {
-    pub first: usize,
-    pub count: usize,
 }
 
 // State q's when clauses, or its action clauses, by the offset of their count.

@@ -37,13 +37,13 @@ use Rattle.sheet.specs.Contents.{body}
 use Rattle.sheet.specs.Judgement.{Stands}
 use Rattle.sheet.specs.Runs.{RunIs}
 use Rattle.sheet.specs.declared.held.Sheet.{Sheet}
-use Rattle.sheet.specs.declared.readers.Run.{Run}
+use Rattle.sheet.specs.declared.held.Run.{Run}
 use Rattle.model.specs.declared.OwnState.{OwnState}
 use Rattle.sheet.proofs.held.Sheet.Laws as T′
 use Rattle.sheet.proofs.judging.Places as P
 use Rattle.sheet.proofs.judging.Places.Laws as P′
-use Rattle.sheet.proofs.readers.Run as R
-use Rattle.sheet.proofs.readers.Run.Laws as R′
+use Rattle.sheet.proofs.held.Run as R
+use Rattle.sheet.proofs.held.Run.Laws as R′
 use Rattle.model.proofs.OwnState as O
 use Rattle.model.proofs.OwnState.Laws as O′
 use Rattle.sheet.proofs.HeldLaws.{D, L, Held, Slice, slice, Owned, Own, places-are, places-make, held-typed, bytes-out}
