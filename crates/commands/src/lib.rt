@@ -103,11 +103,12 @@ fn run_list(g: &[u8], sets: [u32; 8], list: &[u8], part: &[u8], out: &mut [u8], 
     requires { ⌜ Room sets (now list) (now part) at ⌝ }
     ensures { λ r. ⌜ RunsPart (now (g .entry)) (now (list .entry)) (now (part .entry)) (now (out .entry)) (now (out .exit)) at r ⌝ }
 {
+    let still = Ran {
+        at,
+        moved: Moved::Not,
+    };
     if part.len() < 8 {
-        return Ran {
-            at,
-            moved: Moved::Not,
-        };
+        return still;
     }
     let kind = byte_at(part, 0);
     match kind {
@@ -122,10 +123,7 @@ fn run_list(g: &[u8], sets: [u32; 8], list: &[u8], part: &[u8], out: &mut [u8], 
         2 => {
             let n = part_length(part) * 8 + 8;
             if part.len() < n {
-                return Ran {
-                    at,
-                    moved: Moved::Not,
-                };
+                return still;
             }
             let ran = run_if(g, sets, list, &part[0..n], out, at);
             let moved = ran.moved;
@@ -138,10 +136,7 @@ fn run_list(g: &[u8], sets: [u32; 8], list: &[u8], part: &[u8], out: &mut [u8], 
                 Moved::Not => run_list(g, sets, list, &part[n..], out, next),
             }
         }
-        _ => Ran {
-            at,
-            moved: Moved::Not,
-        },
+        _ => still,
     }
 }
 

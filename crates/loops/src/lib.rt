@@ -1,5 +1,5 @@
 // The loop question: configurations rising, each spread into one name set per class, each state probed once, the moves chased.
-// Definitions are in specs/, the proof of demand 3 in proofs/.
+// What the answer is, and demand 3 of it, is in `configurations`; specs/ has what the code holds meanwhile.
 pub mod cells;
 pub mod chase;
 pub mod search;
