@@ -1,7 +1,7 @@
 /*
  * Bargewicker for C: five questions about class sheets, the binary form of a node class.
  *
- * Link with libbargewicker.a, which 'rt staticlib bargewicker' writes for x86-64 Linux to target/staticlib/.
+ * Link with libbw.a, which 'rt staticlib bw' writes for x86-64 Linux to target/staticlib/.
  *
  * Nothing is asked of a call but that each pointer points at as many bytes as the length behind it says, and that the buffer 'out'
  * overlaps neither the sheet nor the child list. Any bytes and any numbers get an answer, and always the same one. A refusal writes

@@ -5,11 +5,10 @@ use Rattle.bargewicker.specs.Numbers.{handling-numbers, values, numbers}
 use Rattle.bargewicker.specs.Placing.{placed-refusal}
 use Rattle.bargewicker.specs.Cases.{given}
 use Rattle.bargewicker.specs.Table.{first-failed, body-checks, sheet-checks, place-checks, command-checks, loop-checks, table}
-use Rattle.bargewicker.specs.Packed.{side-by-side, fields, word, packed, unpacked}
 use Rattle.model.proofs.Computing.{computing as computing-model}
 use Rattle.sheet.proofs.Computing.{computing as computing-sheet}
 use Rattle.configurations.proofs.Computing.{computing as computing-configurations}
 
 unfoldable pub computing : Unit {0}
-unfolding judged placed bytes-of-handling reply-command bits-below present-right bytes-of-loops reply-loop reply handling-numbers values numbers placed-refusal given first-failed body-checks sheet-checks place-checks command-checks loop-checks table side-by-side fields word packed unpacked computing-model computing-sheet computing-configurations
+unfolding judged placed bytes-of-handling reply-command bits-below present-right bytes-of-loops reply-loop reply handling-numbers values numbers placed-refusal given first-failed body-checks sheet-checks place-checks command-checks loop-checks table computing-model computing-sheet computing-configurations
 computing = tt

@@ -8,11 +8,6 @@ pub mod BufferLaws
 pub mod HandlingLaws
 pub mod PresentLaws
 pub mod LoopLaws
-pub mod PackedLaws
-pub mod ReadBack
-pub mod SentCount
-pub mod AnswerBounds
-pub mod NothingLost
 pub mod Unique
 pub mod Demand1
 pub mod Demand2

@@ -129,5 +129,4 @@ unique =
       phasing = λ b l q r s f g. same-phase r s (f ∙ sym g);
       commanding = λ b l q m out r s x y f g. (same-command r s (f .numbers-are ∙ sym (g .numbers-are)), f .buffer-is ∙ sym (g .buffer-is));
       looping = λ b present out r s x y f g. (same-loop r s (f .numbers-are ∙ sym (g .numbers-are)), f .buffer-is ∙ sym (g .buffer-is));
-      exported = λ q r s x y f g. (f .word-is ∙ sym (g .word-is), f .buffer-is ∙ sym (g .buffer-is));
     }

@@ -6,5 +6,4 @@ pub mod Promises
 pub mod Cases
 pub mod Table
 pub mod Demands
-pub mod Packed
 pub mod Unique

@@ -1,12 +1,10 @@
--- The promises of the face and of its exported functions leave one answer, and one content of a lent buffer, for any input, refused
--- calls too.
+-- The promises of the face leave one answer, and one content of a lent buffer, for any input, refused calls too.
 -- Assumes nothing.
 use Prim.Native.Nat.{ℕ}
 use mathlib.Core.Path.{_≡_}
 use mathlib.Core.List.{List}
 use Rattle.bargewicker.specs.Questions.{Question, reply, judge, probe-in, phase-from, command-in, loop-with}
 use Rattle.bargewicker.specs.Numbers.{numbers, Answered}
-use Rattle.bargewicker.specs.Packed.{Returned}
 use Rattle.bargewicker.specs.Answers.{judgement-numbers, probe-numbers, phase-answer-numbers, command-numbers, loop-answer-numbers}
 use Rattle.bargewicker.specs.declared.Judgement.{Judgement}
 use Rattle.bargewicker.specs.declared.ProbeAnswer.{ProbeAnswer}
@@ -22,10 +20,6 @@ OneAnswer A numbers-of q = (r s : A) → numbers-of r ≡ numbers (reply q) → 
 abbrev pub OneAnswerAndBuffer : (A : Type 0) → (A → List ℕ) → Question → Type 0
 OneAnswerAndBuffer A numbers-of q = (r s : A) (x y : List ℕ) → Answered q (numbers-of r) x → Answered q (numbers-of s) y → (r ≡ s) × (x ≡ y)
 
--- two words that an exported function returns, and two contents of the buffer afterwards
-abbrev pub OneWordAndBuffer : Question → Type 0
-OneWordAndBuffer q = (r s : ℕ) (x y : List ℕ) → Returned q r x → Returned q s y → (r ≡ s) × (x ≡ y)
-
 -- of each of the five questions
 pub record Unique : Type 0 where
   pub judging : (b : List ℕ) → OneAnswer Judgement judgement-numbers (judge b)
@@ -33,4 +27,3 @@ pub record Unique : Type 0 where
   pub phasing : (b l : List ℕ) (q : ℕ) → OneAnswer PhaseAnswer phase-answer-numbers (phase-from b l q)
   pub commanding : (b l : List ℕ) (q m : ℕ) (out : List ℕ) → OneAnswerAndBuffer CommandAnswer command-numbers (command-in b l q m out)
   pub looping : (b : List ℕ) (present : ℕ) (out : List ℕ) → OneAnswerAndBuffer LoopAnswer loop-answer-numbers (loop-with b present out)
-  pub exported : (q : Question) → OneWordAndBuffer q

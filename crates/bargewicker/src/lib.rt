@@ -1,7 +1,5 @@
 // The face: the five questions on bytes and numbers. Each gets an answer for any input; nothing is asked of the caller beforehand, and
 // a refusal writes no byte into a lent buffer. What each answer means is in specs/: Questions.antt and Answers.antt.
-pub mod exports;
-
 use bodies::clauses::Referrer;
 use commands::Handling;
 use commands::handle;

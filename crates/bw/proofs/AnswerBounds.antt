@@ -1,0 +1,165 @@
+-- How large the numbers of an answer are, for a sheet of bytes that is accepted.
+-- Assumes nothing.
+use Prim.Native.Nat.{ℕ, zero, suc, _+_, _*_, _<_, _≤_}
+use native.Mathlib.Omega.{arith}
+use mathlib.Core.Path.{_≡_, refl, sym, _∙_, ap, subst}
+use mathlib.Core.Bool.{Bool, true, false}
+use mathlib.Core.List.{List, [], _∷_, _++_, List·Memᴰ, List·Memᴰ·head, List·Memᴰ·tail}
+use mathlib.Core.Option.{Option, none, some}
+use lib.Dec.{eqb}
+use lib.ListN.{length, getD}
+use borrow.Author.Tests.{ltb-true}
+use Rattle.model.specs.Words.{choose, maybe}
+use Rattle.model.specs.Tree.{Child, Referrer, move-to, run, stay, When, Class, Statement, send, go-to, branch, Part, end, _then_, Action, no-action, atom, any-in, everyone}
+use Rattle.model.specs.Node.{own-states, state-of, Probed, nothing, found, probe, by-do, turn, turn-for, stops, next, command-of}
+use Rattle.model.specs.Moves.{after}
+use Rattle.model.specs.Guards.{holds}
+use Rattle.model.specs.Commands.{Handling, handled, ignored, handled-by, command, run-one, run-part, clause-for}
+use Rattle.model.specs.Sound.{ReferrerRight, statement-within, part-within}
+use Rattle.model.proofs.Words.{clash, and-left, and-right}
+use Rattle.model.proofs.Moves.{after-within}
+use Rattle.model.proofs.Phase.{getD-mem, probe-found, next-within}
+use Rattle.bodies.specs.Bytes.{Bytes}
+use Rattle.bodies.specs.Clauses.{in-eights, referrer-of}
+use Rattle.bodies.proofs.Bytes.{u16-below}
+use Rattle.sheet.specs.Contents.{bodies}
+use Rattle.sheet.specs.Rules.{Accepted}
+use Rattle.sheet.specs.Reading.{class-of, when-in, action-in}
+use Rattle.sheet.proofs.Contents.{body-bytes, counted}
+use Rattle.sheet.proofs.Reading.{own-states-in, whens-in, mem-whens, mem-actions}
+use Rattle.sheet.proofs.Rules.{accepted-right}
+use Rattle.sheet.proofs.Sound.{sound}
+use Rattle.bargewicker.specs.Questions.{bytes-of-handling}
+use Rattle.bw.proofs.SentCount.{part-size, body-sized, bytes-most}
+
+-- the state of a handling
+abbrev pub state-left : Handling → ℕ
+state-left (handled sent s) = s
+state-left (ignored s) = s
+
+-- a referrer's target is a byte
+abbrev pub Small : Referrer → Type 0
+Small (move-to t) = t < 256
+Small (run a) = a < 256
+Small stay = Unit {0}
+
+referrer-small : (number t : ℕ) → t < 256 → Small (referrer-of number t)
+unfolding referrer-of
+referrer-small zero t l = l
+referrer-small (suc zero) t l = l
+referrer-small (suc (suc n)) t l = tt
+
+-- a turn that stops on a DO is by a clause that runs an action, whose command it names
+turn-runs : (c : Class) (q m : ℕ) (p : Probed) → turn-for c q p ≡ stops (by-do m) → (i : ℕ) × (a : ℕ) × (p ≡ found i (run a)) × (command-of c q a ≡ m)
+unfolding turn-for
+turn-runs c q m nothing e = absurd (clash (cc))
+turn-runs c q m (found i (move-to t)) e = absurd (clash (cc))
+turn-runs c q m (found i (run a)) e = (i, a, refl, cc)
+turn-runs c q m (found i stay) e = absurd (clash (cc))
+
+-- statements whose moves lead below S move to a state below S
+mutual
+  unfolding statement-within part-within run-one run-part
+
+  one-moves : (s : Statement) (ks : List Child) (S : ℕ) → statement-within s S ≡ true → (t : ℕ) → run-one s ks .moved ≡ some t → t < S
+  one-moves (send m p) ks S h t e = absurd (clash (cc))
+  one-moves (go-to u) ks S h t e = let z : u ≡ t = cc in let l = ltb-true u S h in omega arith
+  one-moves (branch g a b) ks S h t e =
+      go (holds g ks) e (λ x. part-moves a ks S (and-left (part-within a S) (part-within b S) h) t x) (λ x. part-moves b ks S (and-right (part-within a S) (part-within b S) h) t x)
+    where
+      go : (x : Bool) → choose x (λ _. run-part a ks) (λ _. run-part b ks) .moved ≡ some t → (run-part a ks .moved ≡ some t → t < S) → (run-part b ks .moved ≡ some t → t < S) → t < S
+      go true e f g = f e
+      go false e f g = g e
+
+  part-moves : (p : Part) (ks : List Child) (S : ℕ) → part-within p S ≡ true → (t : ℕ) → run-part p ks .moved ≡ some t → t < S
+  part-moves end ks S h t e = absurd (clash (cc))
+  part-moves (s then p) ks S h t e =
+      go (run-one s ks .moved) e (λ x. one-moves s ks S (and-left (statement-within s S) (part-within p S) h) t x) (λ x. part-moves p ks S (and-right (statement-within s S) (part-within p S) h) t x)
+    where
+      go : (o : Option ℕ) → maybe o (λ _. record { sent = run-one s ks .sent ++ run-part p ks .sent; moved = run-part p ks .moved }) (λ _. run-one s ks) .moved ≡ some t
+          → (run-one s ks .moved ≡ some t → t < S) → (run-part p ks .moved ≡ some t → t < S) → t < S
+      go none e f g = g e
+      go (some u) e f g = f e
+
+-- the clause for a command is one of the state's
+clause-listed : (m : ℕ) (xs : List Action) (p : Part) → clause-for m xs ≡ some p → (a : Action) × List·Memᴰ a xs × (a .body ≡ p)
+unfolding clause-for
+clause-listed m [] p e = absurd (clash (cc))
+clause-listed m (a ∷ rest) p e = go (eqb (a .command) m) e (clause-listed m rest p)
+  where
+    go : (x : Bool) → choose x (λ _. some (a .body)) (λ _. clause-for m rest) ≡ some p → (clause-for m rest ≡ some p → (b : Action) × List·Memᴰ b rest × (b .body ≡ p)) → (b : Action) × List·Memᴰ b (a ∷ rest) × (b .body ≡ p)
+    go true e r = (a, List·Memᴰ·head refl, cc)
+    go false e r = let (b, n, f) = r e in (b, List·Memᴰ·tail n, f)
+
+module _ (b : List ℕ) (h : Bytes b) (a : Accepted b) (ks : List Child) where
+  abbrev c : Class
+  c = class-of b
+
+  -- at most 32 states
+  pub few : own-states c ≤ 32
+  unfolding class-of
+  few = omega (arith, own-states-in (bodies b), counted b (accepted-right b a .contents) .states-most)
+
+  -- what stands past the end of a state's when clauses
+  abbrev past : When
+  past = record { guard = atom any-in everyone 0; referrer = stay }
+
+  -- the probe's clause has a number of two bytes and a target of one
+  pub found-small : (q i : ℕ) (r : Referrer) → probe c ks q ≡ found i r → (i < 65536) × Small r
+  unfolding class-of bodies when-in
+  found-small q i r e =
+      let H = probe-found c ks past q i r e in
+      let (j, l, k, f) = mem-whens (bodies b) q (getD (state-of c q .whens) i past) (getD-mem (state-of c q .whens) i past (H .listed)) in
+      let n = whens-in (bodies b) q l in
+      let u = u16-below (bodies b .states) (body-bytes b h 1) (q * 4 + 0) in
+      let v = H .listed in
+      ((omega arith), subst Small (sym (ap (λ (w : When). w .referrer) f) ∙ H .referrer) (referrer-small _ _ (body-bytes b h 2 _)))
+
+  -- the command of a state's action clause is a byte
+  command-small : (q n : ℕ) → n < length (state-of c q .actions) → command-of c q n < 256
+  unfolding class-of bodies action-in
+  command-small q n l =
+      let (j, k, m, f) = mem-actions (bodies b) q (getD (state-of c q .actions) n no-action) (getD-mem (state-of c q .actions) n no-action l) in
+      subst (λ (x : Action). x .command < 256) (sym f) (body-bytes b h 4 _)
+
+  -- so is that of a DO
+  pub do-small : (q m : ℕ) → turn c ks q ≡ stops (by-do m) → m < 256
+  unfolding turn
+  do-small q m e =
+      let (i, n, f, g) = turn-runs c q m (probe c ks q) e in
+      let H = probe-found c ks past q i (run n) f in
+      let w = getD (state-of c q .whens) i past in
+      let l : n < length (state-of c q .actions) = subst (ReferrerRight c q) (H .referrer) (sound b h a .referrers q w (getD-mem (state-of c q .whens) i past (H .listed))) in
+      rw (← g) (command-small q n l)
+
+  module _ (q : ℕ) (low : q < own-states c) where
+    -- a state that moves lead to
+    pub reached-small : (n r : ℕ) → after (next c ks) n q ≡ some r → r < 256
+    reached-small n r e = let l = after-within (next c ks) (own-states c) (next-within c ks (sound b h a)) n q r low e in let f = few in omega arith
+
+    -- the state that a command leaves is below S
+    pub left-small : (m : ℕ) → state-left (command c ks q m) < 256
+    unfolding command
+    left-small m = go (clause-for m (state-of c q .actions)) refl
+      where
+        moved-below : (p : Part) → part-within p (own-states c) ≡ true → (o : Option ℕ) → run-part p ks .moved ≡ o → maybe o (λ _. q) (λ t. t) < 256
+        moved-below p w none g = let n = few in omega arith
+        moved-below p w (some t) g = let l = part-moves p ks (own-states c) w t g in let n = few in omega arith
+
+        go : (o : Option Part) → clause-for m (state-of c q .actions) ≡ o → state-left (maybe o (λ _. ignored q) (λ p. handled-by q (run-part p ks))) < 256
+        go none f = let n = few in omega arith
+        go (some p) f = let (x, y, z) = clause-listed m (state-of c q .actions) p f in moved-below p (rw z at (sound b h a .bodies q x y)) (run-part p ks .moved) refl
+
+    -- what a command sends to at most 4,096 children
+    pub sent-small : (m : ℕ) → length ks ≤ 4096 → length (bytes-of-handling (command c ks q m)) < 4294967296
+    unfolding command bytes-of-handling class-of
+    sent-small m k = go (clause-for m (state-of c q .actions)) refl
+      where
+        go : (o : Option Part) → clause-for m (state-of c q .actions) ≡ o → length (bytes-of-handling (maybe o (λ _. ignored q) (λ p. handled-by q (run-part p ks)))) < 4294967296
+        go none f = omega arith
+        go (some p) f =
+            let (x, y, z) = clause-listed m (state-of c q .actions) p f in
+            let (j, u, v, w) = mem-actions (bodies b) q x y in
+            let n : part-size p ≤ in-eights (bodies b .statements) = subst (λ (p : Part). part-size p ≤ in-eights (bodies b .statements)) (sym (ap (λ (x : Action). x .body) w) ∙ z) (body-sized (bodies b) _) in
+            let l : part-size p ≤ 1024 = omega (arith, counted b (accepted-right b a .contents) .statements-most) in
+            omega (arith, bytes-most p ks l k)

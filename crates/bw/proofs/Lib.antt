@@ -1,0 +1,5 @@
+pub mod PackedLaws
+pub mod ReadBack
+pub mod SentCount
+pub mod AnswerBounds
+pub mod NothingLost

@@ -1,0 +1,88 @@
+-- Laws about specs/Packed.antt: the word of each answer's numbers, as the exported functions compute it.
+-- Assumes nothing.
+use Prim.Native.Nat.{ℕ, _+_, _*_, _%_, _<_, _≤_}
+use native.Mathlib.Omega.{arith}
+use mathlib.Core.Path.{_≡_, sym, _∙_, ap}
+use mathlib.Core.List.{List, [], _∷_}
+use Rattle.model.specs.Refusals.{number-of}
+use Rattle.model.specs.declared.Refusal.{Refusal}
+use Rattle.model.specs.declared.Refusal.the-variants.{SheetLength, Contents, EmptyNameSet, ClauseCounts, GuardLayout, GuardReach, Target, ActionClause, Statement, ChildList, AskedState, AskedCommand, PresentBit, NameCount, Room}
+use Rattle.model.specs.declared.OwnState.{OwnState}
+use Rattle.bodies.specs.Referrers.{reads-as}
+use Rattle.bodies.specs.declared.clauses.Referrer.{Referrer}
+use Rattle.bodies.specs.declared.clauses.Referrer.the-variants.{MoveTo, Do, Stay}
+use Rattle.node.specs.Probing.{ending-as}
+use Rattle.node.specs.declared.probing.Ending.{Ending}
+use Rattle.node.specs.declared.probing.Ending.the-variants.{ByNone, ByStay, ByDo}
+use Rattle.bargewicker.specs.Questions.{Question}
+use Rattle.bargewicker.specs.Numbers.{referrer-numbers, settled-numbers, Answered}
+use Rattle.bw.specs.Packed.{Field, side-by-side, fields, word, kinds, packed, kinds-of-probe, kinds-of-phase, kinds-of-command, kinds-of-loop, Returned, OneWordAndBuffer}
+
+-- the largest number of a refusal is 15
+small : (x : Refusal) → number-of x ≤ 15
+small x = elim x [ SheetLength ↦ omega arith | Contents ↦ omega arith | EmptyNameSet ↦ omega arith | ClauseCounts ↦ omega arith | GuardLayout ↦ omega arith | GuardReach ↦ omega arith | Target ↦ omega arith | ActionClause ↦ omega arith | Statement ↦ omega arith | ChildList ↦ omega arith | AskedState ↦ omega arith | AskedCommand ↦ omega arith | PresentBit ↦ omega arith | NameCount ↦ omega arith | Room ↦ omega arith ]
+
+-- a refusal is its own word, whatever was asked
+pub word-refused : (ks : List (List Field)) (x : Refusal) (r : ℕ) → r ≡ number-of x → (ns : List ℕ) → ns ≡ number-of x ∷ [] → r ≡ word ks ns
+unfolding word fields side-by-side
+word-refused ks x r e ns f = let l = small x in let z : r ≡ word ks (number-of x ∷ []) = omega arith in z ∙ ap (word ks) (sym f)
+
+-- the probe: a clause with each of the three referrers
+module _ (i : ℕ) (r : Referrer) where
+  pub word-move : (t : OwnState) → r ≡ MoveTo t → t .0 < 256 → 256 + i % 65536 * 65536 + t .0 * 1099511627776 ≡ word kinds-of-probe (0 ∷ 1 ∷ i ∷ referrer-numbers (reads-as r))
+  unfolding word fields side-by-side
+  word-move t e l = rw e (omega arith)
+
+  pub word-do : (a : ℕ) → r ≡ Do a → a < 256 → 256 + i % 65536 * 65536 + 4294967296 + a * 1099511627776 ≡ word kinds-of-probe (0 ∷ 1 ∷ i ∷ referrer-numbers (reads-as r))
+  unfolding word fields side-by-side
+  word-do a e l = rw e (omega arith)
+
+  pub word-stay : r ≡ Stay → 256 + i % 65536 * 65536 + 8589934592 ≡ word kinds-of-probe (0 ∷ 1 ∷ i ∷ referrer-numbers (reads-as r))
+  unfolding word fields side-by-side
+  word-stay e = rw e (omega arith)
+
+-- the when phase: settled by each of the three endings, or a loop
+module _ (q m : ℕ) (l : q < 256) where
+  pub word-by-none : (e : Ending) → e ≡ ByNone → q * 65536 + m % 256 * 16777216 ≡ word kinds-of-phase (0 ∷ settled-numbers (ending-as e) q m)
+  unfolding word fields side-by-side
+  word-by-none e f = rw f (omega arith)
+
+  pub word-by-stay : (e : Ending) → e ≡ ByStay → 256 + (q * 65536 + m % 256 * 16777216) ≡ word kinds-of-phase (0 ∷ settled-numbers (ending-as e) q m)
+  unfolding word fields side-by-side
+  word-by-stay e f = rw f (omega arith)
+
+  pub word-by-do : (e : Ending) (c : ℕ) → e ≡ ByDo c → 512 + (q * 65536 + m % 256 * 16777216) + c % 256 * 4294967296 ≡ word kinds-of-phase (0 ∷ settled-numbers (ending-as e) q m)
+  unfolding word fields side-by-side
+  word-by-do e c f = rw f (omega arith)
+
+  pub word-loops : (ns : List ℕ) → ns ≡ 0 ∷ 3 ∷ q ∷ m ∷ [] → 768 + q * 65536 + m % 256 * 16777216 ≡ word kinds-of-phase ns
+  unfolding word fields side-by-side
+  word-loops ns f = rw f (omega arith)
+
+-- the command: ignored, or handled
+module _ (q : ℕ) (l : q < 256) (ns : List ℕ) where
+  pub word-ignored : ns ≡ 0 ∷ 0 ∷ q ∷ 0 ∷ [] → q * 65536 ≡ word kinds-of-command ns
+  unfolding word fields side-by-side
+  word-ignored f = rw f (omega arith)
+
+  pub word-handled : (n : ℕ) → ns ≡ 0 ∷ 1 ∷ q ∷ n ∷ [] → 256 + q * 65536 + n % 4294967296 * 4294967296 ≡ word kinds-of-command ns
+  unfolding word fields side-by-side
+  word-handled n f = rw f (omega arith)
+      -- the loop question: a loop, or free
+
+  pub word-loop : (k : ℕ) → k < 4294967296 → ns ≡ 0 ∷ 1 ∷ k ∷ q ∷ [] → 256 + q * 65536 + k * 4294967296 ≡ word kinds-of-loop ns
+  unfolding word fields side-by-side
+  word-loop k m f = rw f (omega arith)
+
+pub word-free : (m : ℕ) (ns : List ℕ) → ns ≡ 0 ∷ 0 ∷ m ∷ [] → m % 256 * 16777216 ≡ word kinds-of-loop ns
+unfolding word fields side-by-side
+word-free m ns f = rw f (omega arith)
+
+-- the word of what a question with a buffer is answered
+pub returned : (q : Question) (r : ℕ) (ns after : List ℕ) → r ≡ word (kinds q) ns → Answered q ns after → Returned q r after
+unfolding packed
+returned q r ns after e a = record { word-is = e ∙ ap (word (kinds q)) (a .numbers-are); buffer-is = a .buffer-is }
+
+-- the promise leaves one word and one content of the buffer
+pub one-word-and-buffer : OneWordAndBuffer
+one-word-and-buffer q r s x y f g = (f .word-is ∙ sym (g .word-is), f .buffer-is ∙ sym (g .buffer-is))

@@ -1,0 +1,118 @@
+-- The fields of a word give back the numbers that were packed, where each fits its field.
+-- Assumes nothing.
+use Prim.Native.Nat.{ℕ, _+_, _*_, _/_, _%_, _^_, _<_, _≤_}
+use native.Mathlib.Omega.{arith}
+use mathlib.Core.Path.{_≡_, refl, _∙_, ap}
+use mathlib.Core.List.{List, [], _∷_, map}
+use lib.Arith.{digits-div, digits-mod}
+use lib.ListN.{getD}
+use borrow.Author.Tests.{ne-eqb}
+use Rattle.bw.specs.Packed.{Field, refused, kind, clause, referrer, target, state, moves, to-do, bytes-written, configuration, side-by-side, fields, word, read, unpacked, kinds-of-probe, kinds-of-phase, kinds-of-command, kinds-of-loop}
+
+-- a refusal
+pub back-judged : (n : ℕ) → n < 256 → unpacked [] (word [] (n ∷ [])) ≡ n ∷ []
+unfolding word fields side-by-side unpacked
+back-judged n l = let w = word [] (n ∷ []) in let e : read w refused ≡ n = omega arith in ap (λ (x : ℕ). x ∷ []) e
+
+pub back-refused : (k : List Field) (ks : List (List Field)) (n : ℕ) → 1 ≤ n → n < 256 → unpacked (k ∷ ks) (word (k ∷ ks) (n ∷ [])) ≡ n ∷ []
+unfolding word fields side-by-side unpacked
+back-refused k ks n p l =
+    let w = word (k ∷ ks) (n ∷ []) in
+    let e : read w refused ≡ n = omega arith in
+    rw (e, ne-eqb n 0 (λ z. let y : n ≡ 0 = z in omega arith))
+
+-- an answer: the kind, then the fields of that kind
+given : (k : List Field) (ks : List (List Field)) (w n : ℕ) → read w refused ≡ 0 → read w kind ≡ n → unpacked (k ∷ ks) w ≡ 0 ∷ n ∷ map (read w) (getD (k ∷ ks) n [])
+unfolding unpacked
+given k ks w n e f = rw (e, f)
+
+-- a field is read back from a word in which it stands between what is above and what is below it
+between : (f : Field) (w above n below : ℕ) → w ≡ (above * 2 ^ f .width + n) * 2 ^ f .lowest + below → below < 2 ^ f .lowest → n < 2 ^ f .width → read w f ≡ n
+between f w above n below e l m =
+    ap (λ (x : ℕ). x / 2 ^ f .lowest % 2 ^ f .width) e ∙ ap (λ (x : ℕ). x % 2 ^ f .width) (digits-div (above * 2 ^ f .width + n) l) ∙ digits-mod above m
+
+-- the probe: no clause
+pub back-nothing : unpacked kinds-of-probe (word kinds-of-probe (0 ∷ 0 ∷ [])) ≡ 0 ∷ 0 ∷ []
+unfolding word fields side-by-side unpacked
+back-nothing = refl
+
+-- its clause
+pub back-clause : (i r t : ℕ) → i < 65536 → r < 256 → t < 256 → unpacked kinds-of-probe (word kinds-of-probe (0 ∷ 1 ∷ i ∷ r ∷ t ∷ [])) ≡ 0 ∷ 1 ∷ i ∷ r ∷ t ∷ []
+unfolding word fields side-by-side
+back-clause i r t l m n = go (word kinds-of-probe (0 ∷ 1 ∷ i ∷ r ∷ t ∷ [])) (omega arith)
+  where
+    go : (w : ℕ) → w ≡ 256 + i * 65536 + r * 4294967296 + t * 1099511627776 → unpacked kinds-of-probe w ≡ 0 ∷ 1 ∷ i ∷ r ∷ t ∷ []
+    go w e =
+        let a = between refused w (1 + 256 * i + 16777216 * r + 4294967296 * t) 0 0 (omega arith) (omega arith) (omega arith) in
+        let b = between kind w (i + 65536 * r + 16777216 * t) 1 0 (omega arith) (omega arith) (omega arith) in
+        let x = between clause w (r + 256 * t) i 256 (omega arith) (omega arith) l in
+        let y = between referrer w t r (256 + i * 65536) (omega arith) (omega arith) m in
+        let z = between target w 0 t (256 + i * 65536 + r * 4294967296) (omega arith) (omega arith) n in
+        given [] ((clause ∷ referrer ∷ target ∷ []) ∷ []) w 1 a b ∙ cc (x, y, z)
+
+-- the state and the moves of a when phase, of a kind that has these two
+pub back-reached : (k q m : ℕ) → k < 256 → q < 256 → m < 256 → getD kinds-of-phase k [] ≡ state ∷ moves ∷ []
+    → unpacked kinds-of-phase (word kinds-of-phase (0 ∷ k ∷ q ∷ m ∷ [])) ≡ 0 ∷ k ∷ q ∷ m ∷ []
+unfolding word fields side-by-side
+back-reached k q m l o p f = go (word kinds-of-phase (0 ∷ k ∷ q ∷ m ∷ [])) (rw f (omega arith))
+  where
+    go : (w : ℕ) → w ≡ k * 256 + q * 65536 + m * 16777216 → unpacked kinds-of-phase w ≡ 0 ∷ k ∷ q ∷ m ∷ []
+    go w e =
+        let a = between refused w (k + 256 * q + 65536 * m) 0 0 (omega arith) (omega arith) (omega arith) in
+        let b = between kind w (q + 256 * m) k 0 (omega arith) (omega arith) l in
+        let x = between state w m q (k * 256) (omega arith) (omega arith) o in
+        let y = between moves w 0 m (k * 256 + q * 65536) (omega arith) (omega arith) p in
+        given (state ∷ moves ∷ []) ((state ∷ moves ∷ []) ∷ (state ∷ moves ∷ to-do ∷ []) ∷ (state ∷ moves ∷ []) ∷ []) w k a b
+        ∙ ap (λ (fs : List Field). 0 ∷ k ∷ map (read w) fs) f ∙ cc (x, y)
+
+-- the same with the command of a DO
+pub back-do : (q m c : ℕ) → q < 256 → m < 256 → c < 256 → unpacked kinds-of-phase (word kinds-of-phase (0 ∷ 2 ∷ q ∷ m ∷ c ∷ [])) ≡ 0 ∷ 2 ∷ q ∷ m ∷ c ∷ []
+unfolding word fields side-by-side
+back-do q m c l o p = go (word kinds-of-phase (0 ∷ 2 ∷ q ∷ m ∷ c ∷ [])) (omega arith)
+  where
+    go : (w : ℕ) → w ≡ 512 + q * 65536 + m * 16777216 + c * 4294967296 → unpacked kinds-of-phase w ≡ 0 ∷ 2 ∷ q ∷ m ∷ c ∷ []
+    go w e =
+        let a = between refused w (2 + 256 * q + 65536 * m + 16777216 * c) 0 0 (omega arith) (omega arith) (omega arith) in
+        let b = between kind w (q + 256 * m + 65536 * c) 2 0 (omega arith) (omega arith) (omega arith) in
+        let x = between state w (m + 256 * c) q 512 (omega arith) (omega arith) l in
+        let y = between moves w c m (512 + q * 65536) (omega arith) (omega arith) o in
+        let z = between to-do w 0 c (512 + q * 65536 + m * 16777216) (omega arith) (omega arith) p in
+        given (state ∷ moves ∷ []) ((state ∷ moves ∷ []) ∷ (state ∷ moves ∷ to-do ∷ []) ∷ (state ∷ moves ∷ []) ∷ []) w 2 a b ∙ cc (x, y, z)
+
+-- the state of a command and the bytes written; both kinds have them
+pub back-command : (k q n : ℕ) → k < 256 → q < 256 → n < 4294967296 → getD kinds-of-command k [] ≡ state ∷ bytes-written ∷ []
+    → unpacked kinds-of-command (word kinds-of-command (0 ∷ k ∷ q ∷ n ∷ [])) ≡ 0 ∷ k ∷ q ∷ n ∷ []
+unfolding word fields side-by-side
+back-command k q n l o p f = go (word kinds-of-command (0 ∷ k ∷ q ∷ n ∷ [])) (rw f (omega arith))
+  where
+    go : (w : ℕ) → w ≡ k * 256 + q * 65536 + n * 4294967296 → unpacked kinds-of-command w ≡ 0 ∷ k ∷ q ∷ n ∷ []
+    go w e =
+        let a = between refused w (k + 256 * q + 16777216 * n) 0 0 (omega arith) (omega arith) (omega arith) in
+        let b = between kind w (q + 65536 * n) k 0 (omega arith) (omega arith) l in
+        let x = between state w (256 * n) q (k * 256) (omega arith) (omega arith) o in
+        let y = between bytes-written w 0 n (k * 256 + q * 65536) (omega arith) (omega arith) p in
+        given (state ∷ bytes-written ∷ []) ((state ∷ bytes-written ∷ []) ∷ []) w k a b ∙ ap (λ (fs : List Field). 0 ∷ k ∷ map (read w) fs) f ∙ cc (x, y)
+
+-- the moves of a class that is free of loops; the configuration and the state of a loop
+pub back-free : (m : ℕ) → m < 256 → unpacked kinds-of-loop (word kinds-of-loop (0 ∷ 0 ∷ m ∷ [])) ≡ 0 ∷ 0 ∷ m ∷ []
+unfolding word fields side-by-side
+back-free m l = go (word kinds-of-loop (0 ∷ 0 ∷ m ∷ [])) (omega arith)
+  where
+    go : (w : ℕ) → w ≡ m * 16777216 → unpacked kinds-of-loop w ≡ 0 ∷ 0 ∷ m ∷ []
+    go w e =
+        let a = between refused w (65536 * m) 0 0 (omega arith) (omega arith) (omega arith) in
+        let b = between kind w (256 * m) 0 0 (omega arith) (omega arith) (omega arith) in
+        let x = between moves w 0 m 0 (omega arith) (omega arith) l in
+        given (moves ∷ []) ((configuration ∷ state ∷ []) ∷ []) w 0 a b ∙ cc (x)
+
+pub back-loop : (k q : ℕ) → k < 4294967296 → q < 256 → unpacked kinds-of-loop (word kinds-of-loop (0 ∷ 1 ∷ k ∷ q ∷ [])) ≡ 0 ∷ 1 ∷ k ∷ q ∷ []
+unfolding word fields side-by-side
+back-loop k q l o = go (word kinds-of-loop (0 ∷ 1 ∷ k ∷ q ∷ [])) (omega arith)
+  where
+    go : (w : ℕ) → w ≡ 256 + q * 65536 + k * 4294967296 → unpacked kinds-of-loop w ≡ 0 ∷ 1 ∷ k ∷ q ∷ []
+    go w e =
+        let a = between refused w (1 + 256 * q + 16777216 * k) 0 0 (omega arith) (omega arith) (omega arith) in
+        let b = between kind w (q + 65536 * k) 1 0 (omega arith) (omega arith) (omega arith) in
+        let x = between configuration w 0 k (256 + q * 65536) (omega arith) (omega arith) l in
+        let y = between state w (256 * k) q 256 (omega arith) (omega arith) o in
+        given (moves ∷ []) ((configuration ∷ state ∷ []) ∷ []) w 1 a b ∙ cc (x, y)

@@ -1,0 +1,126 @@
+-- The word that each exported function returns: the paper's numbers of the answer, each in its field of bits.
+-- Assumes nothing.
+use Prim.Native.Nat.{ℕ, _+_, _*_, _/_, _%_, _^_}
+use mathlib.Core.Path.{_≡_}
+use mathlib.Core.List.{List, [], _∷_, map}
+use lib.Dec.{eqb}
+use lib.ListN.{getD}
+use Rattle.model.specs.Words.{choose}
+use Rattle.bodies.specs.Bytes.{Bytes}
+use Rattle.bargewicker.specs.Questions.{Question, judge, probe-in, phase-from, command-in, loop-with, lent, reply, buffer-after}
+use Rattle.bargewicker.specs.Numbers.{numbers}
+
+-- a field of a word: its lowest bit, and how many bits it has
+pub record Field : Type 0 where
+  pub lowest : ℕ
+  pub width : ℕ
+
+abbrev pub field : ℕ → ℕ → Field
+field lowest width = record { lowest = lowest; width = width }
+
+-- every word has these two: the refusal, 0 for none, and which case of the answer it is
+abbrev pub refused : Field
+refused = field 0 8
+
+abbrev pub kind : Field
+kind = field 8 8
+
+-- the probe's clause
+abbrev pub clause : Field
+clause = field 16 16
+
+abbrev pub referrer : Field
+referrer = field 32 8
+
+abbrev pub target : Field
+target = field 40 8
+
+-- own states and moves; the command of a DO
+abbrev pub state : Field
+state = field 16 8
+
+abbrev pub moves : Field
+moves = field 24 8
+
+abbrev pub to-do : Field
+to-do = field 32 8
+
+-- the number of bytes written; the configuration of a loop
+abbrev pub bytes-written : Field
+bytes-written = field 32 32
+
+abbrev pub configuration : Field
+configuration = field 32 32
+
+-- the fields of each kind of answer, in the order of its numbers, kind 0 first
+abbrev pub kinds-of-probe : List (List Field)
+kinds-of-probe = [] ∷ (clause ∷ referrer ∷ target ∷ []) ∷ []
+
+abbrev pub kinds-of-phase : List (List Field)
+kinds-of-phase = (state ∷ moves ∷ []) ∷ (state ∷ moves ∷ []) ∷ (state ∷ moves ∷ to-do ∷ []) ∷ (state ∷ moves ∷ []) ∷ []
+
+abbrev pub kinds-of-command : List (List Field)
+kinds-of-command = (state ∷ bytes-written ∷ []) ∷ (state ∷ bytes-written ∷ []) ∷ []
+
+abbrev pub kinds-of-loop : List (List Field)
+kinds-of-loop = (moves ∷ []) ∷ (configuration ∷ state ∷ []) ∷ []
+
+abbrev pub kinds : Question → List (List Field)
+kinds (judge b) = []
+kinds (probe-in b l q) = kinds-of-probe
+kinds (phase-from b l q) = kinds-of-phase
+kinds (command-in b l q m out) = kinds-of-command
+kinds (loop-with b present out) = kinds-of-loop
+
+-- a number in its field: as many of its low bits as there is room for
+abbrev pub placed-in : Field → ℕ → ℕ
+placed-in f n = n % 2 ^ f .width * 2 ^ f .lowest
+
+-- numbers in their fields, one for one; what has no number is 0
+unfoldable pub side-by-side : List Field → List ℕ → ℕ
+side-by-side [] ns = 0
+side-by-side (f ∷ fs) [] = 0
+side-by-side (f ∷ fs) (n ∷ ns) = placed-in f n + side-by-side fs ns
+
+-- the fields of an answer's numbers: a refusal has only its own
+unfoldable pub fields : List (List Field) → List ℕ → List Field
+fields ks [] = refused ∷ []
+fields ks (n ∷ []) = refused ∷ []
+fields ks (n ∷ k ∷ values) = refused ∷ kind ∷ getD ks k []
+
+unfoldable pub word : List (List Field) → List ℕ → ℕ
+word ks ns = side-by-side (fields ks ns) ns
+
+-- the word of a question
+unfoldable pub packed : Question → ℕ
+packed q = word (kinds q) (numbers (reply q))
+
+-- the word and the buffer afterwards are those of the rules
+pub record Returned (q : Question) (r : ℕ) (after : List ℕ) : Type 0 where
+  pub word-is : r ≡ packed q
+  pub buffer-is : after ≡ buffer-after (reply q) (lent q)
+
+-- a field of a word, as C reads it
+abbrev pub read : ℕ → Field → ℕ
+read w f = w / 2 ^ f .lowest % 2 ^ f .width
+
+-- the numbers that a word holds: a refusal alone; or 0, the kind and its values. Where there are no kinds it is the refusal or 0
+unfoldable pub unpacked : List (List Field) → ℕ → List ℕ
+unpacked [] w = read w refused ∷ []
+unpacked (k ∷ ks) w = choose (eqb (read w refused) 0) (λ _. 0 ∷ read w kind ∷ map (read w) (getD (k ∷ ks) (read w kind) [])) (λ _. read w refused ∷ [])
+
+-- the sheet that a question is about
+abbrev pub sheet-of : Question → List ℕ
+sheet-of (judge b) = b
+sheet-of (probe-in b l q) = b
+sheet-of (phase-from b l q) = b
+sheet-of (command-in b l q m out) = b
+sheet-of (loop-with b present out) = b
+
+-- every number of the answer is read back from its word, whatever bytes the sheet is
+abbrev pub NothingLost : Type 0
+NothingLost = (q : Question) → Bytes (sheet-of q) → unpacked (kinds q) (packed q) ≡ numbers (reply q)
+
+-- two words that a function returns, and two contents of the buffer afterwards, are one
+abbrev pub OneWordAndBuffer : Type 0
+OneWordAndBuffer = (q : Question) (r s : ℕ) (x y : List ℕ) → Returned q r x → Returned q s y → (r ≡ s) × (x ≡ y)

@@ -1,0 +1,154 @@
+// The face for C: each question as an exported function that returns one word. A slice is a pointer and a length to C; nothing more is
+// asked of the caller, and a refusal writes nothing. What a word holds is in specs/Packed.antt, and for C in include/bargewicker.h.
+use bargewicker::CommandAnswer;
+use bargewicker::Judgement;
+use bargewicker::LoopAnswer;
+use bargewicker::PhaseAnswer;
+use bargewicker::ProbeAnswer;
+use bargewicker::refusal_number;
+use bodies::clauses::Referrer;
+use model::OwnState;
+use node::probing::Ending;
+ghost use mathlib.Core.Path.{_≡_};
+ghost use Rattle.bargewicker.specs.Questions.{judge, probe-in, phase-from, command-in, loop-with};
+ghost use Rattle.bargewicker.specs.Answers.{probe-numbers, phase-answer-numbers, command-numbers, loop-answer-numbers};
+ghost use Rattle.bw.specs.Packed.{packed, word, kinds-of-probe, kinds-of-phase, kinds-of-command, kinds-of-loop, Returned};
+
+// A value times one of these stands in its field of the word.
+const KIND: u64 = 0x100;
+
+const CLAUSE: u64 = 0x10000;
+
+const STATE: u64 = 0x10000;
+
+const MOVES: u64 = 0x1000000;
+
+const REFERRER: u64 = 0x100000000;
+
+const TO_DO: u64 = 0x100000000;
+
+const WRITTEN: u64 = 0x100000000;
+
+const CONFIGURATION: u64 = 0x100000000;
+
+const TARGET: u64 = 0x10000000000;
+
+// Is this byte string a class sheet?
+#[no_mangle]
+pub extern "C" fn bw_judge(sheet: &[u8]) -> u64
+    ensures { λ r. ⌜ r ≡ packed (judge (now (sheet .entry))) ⌝ }
+{
+    let answer = bargewicker::judge(sheet);
+    match answer {
+        Judgement::Accepted => 0,
+        Judgement::Refused(x) => refusal_number(x),
+    }
+}
+
+// Which clause of the state is the first whose guard these children make true?
+#[no_mangle]
+pub extern "C" fn bw_probe(sheet: &[u8], children: &[u8], state: u8) -> u64
+    ensures { λ r. ⌜ r ≡ packed (probe-in (now (sheet .entry)) (now (children .entry)) state) ⌝ }
+{
+    pack_probe(bargewicker::probe(sheet, children, state))
+}
+
+// Where does the when phase from the state settle with these children, or does it loop?
+#[no_mangle]
+pub extern "C" fn bw_when_phase(sheet: &[u8], children: &[u8], state: u8) -> u64
+    ensures { λ r. ⌜ r ≡ packed (phase-from (now (sheet .entry)) (now (children .entry)) state) ⌝ }
+{
+    pack_phase(bargewicker::when_phase(sheet, children, state))
+}
+
+// What does the command send to which children, and which state does it leave?
+#[no_mangle]
+pub extern "C" fn bw_command(
+    sheet: &[u8],
+    children: &[u8],
+    state: u8,
+    command: u8,
+    out: &mut [u8],
+) -> u64
+    ensures { λ r. ⌜ Returned (command-in (now (sheet .entry)) (now (children .entry)) state command (now (out .entry))) r (now (out .exit)) ⌝ }
+{
+    pack_command(bargewicker::command(sheet, children, state, command, out))
+}
+
+// Which states of children of the present classes can make the node loop, or how many moves does it make at most?
+#[no_mangle]
+pub extern "C" fn bw_loop(sheet: &[u8], present: u8, out: &mut [u8]) -> u64
+    ensures { λ r. ⌜ Returned (loop-with (now (sheet .entry)) present (now (out .entry))) r (now (out .exit)) ⌝ }
+{
+    pack_loop(bargewicker::loop_question(sheet, present, out))
+}
+
+// The probe's word.
+fn pack_probe(answer: ProbeAnswer) -> u64
+    ensures { λ r. ⌜ r ≡ word kinds-of-probe (probe-numbers answer) ⌝ }
+{
+    match answer {
+        ProbeAnswer::Refused(x) => refusal_number(x),
+        ProbeAnswer::Nothing => 0,
+        ProbeAnswer::Clause(i, r) => pack_clause(i, r),
+    }
+}
+
+// A clause's word: its number, its referrer and target.
+fn pack_clause(number: usize, referrer: Referrer) -> u64
+    ensures { λ r. ⌜ r ≡ word kinds-of-probe (probe-numbers (ProbeAnswer.Clause number referrer)) ⌝ }
+{
+    let clause = KIND + (number as u64) % 65536 * CLAUSE;
+    match referrer {
+        Referrer::MoveTo(t) => clause + (t.0 as u64) * TARGET,
+        Referrer::Do(a) => clause + REFERRER + (a as u64) * TARGET,
+        Referrer::Stay => clause + 2 * REFERRER,
+    }
+}
+
+// The when phase's word.
+fn pack_phase(answer: PhaseAnswer) -> u64
+    ensures { λ r. ⌜ r ≡ word kinds-of-phase (phase-answer-numbers answer) ⌝ }
+{
+    match answer {
+        PhaseAnswer::Refused(x) => refusal_number(x),
+        PhaseAnswer::Settled(e, q, m) => pack_settled(e, q, m),
+        PhaseAnswer::Loops(q, m) => 3 * KIND + (q.0 as u64) * STATE + (m as u64) % 256 * MOVES,
+    }
+}
+
+// A settled phase's word: by what, the state, the moves.
+fn pack_settled(ending: Ending, q: OwnState, m: usize) -> u64
+    ensures { λ r. ⌜ r ≡ word kinds-of-phase (phase-answer-numbers (PhaseAnswer.Settled ending q m)) ⌝ }
+{
+    let reached = (q.0 as u64) * STATE + (m as u64) % 256 * MOVES;
+    match ending {
+        Ending::ByNone => reached,
+        Ending::ByStay => KIND + reached,
+        Ending::ByDo(c) => 2 * KIND + reached + (c as u64) % 256 * TO_DO,
+    }
+}
+
+// The command's word.
+fn pack_command(answer: CommandAnswer) -> u64
+    ensures { λ r. ⌜ r ≡ word kinds-of-command (command-numbers answer) ⌝ }
+{
+    match answer {
+        CommandAnswer::Refused(x) => refusal_number(x),
+        CommandAnswer::Ignored(q) => (q.0 as u64) * STATE,
+        CommandAnswer::Handled(q, n) => KIND
+            + (q.0 as u64) * STATE
+            + (n as u64) % 4294967296 * WRITTEN,
+    }
+}
+
+// The loop question's word.
+fn pack_loop(answer: LoopAnswer) -> u64
+    ensures { λ r. ⌜ r ≡ word kinds-of-loop (loop-answer-numbers answer) ⌝ }
+{
+    match answer {
+        LoopAnswer::Refused(x) => refusal_number(x),
+        LoopAnswer::Loop(k, q) => KIND + (q.0 as u64) * STATE + (k as u64) * CONFIGURATION,
+        LoopAnswer::Free(m) => (m as u64) % 256 * MOVES,
+    }
+}
