@@ -1,11 +1,11 @@
 // From a line to its answer: the verb and its fields are read, the question is put, and the answer's line is written.
-use crate::answers::bad_line;
-use crate::answers::command_line;
-use crate::answers::judge_line;
-use crate::answers::loop_line;
-use crate::answers::phase_line;
-use crate::answers::probe_line;
 use check::same;
+use lines::answers::bad_line;
+use lines::answers::command_line;
+use lines::answers::judge_line;
+use lines::answers::loop_line;
+use lines::answers::phase_line;
+use lines::answers::probe_line;
 use texts::reading::Number;
 use texts::reading::count;
 use texts::reading::decode;

@@ -3,14 +3,13 @@
 //   judge SHEET | probe SHEET LIST STATE | phase SHEET LIST STATE | command SHEET LIST STATE COMMAND BUFFER | loop SHEET PRESENT BUFFER
 //
 // Byte strings are lower-case hex, `-` for the empty one; numbers are decimal, 0 to 255; fields are parted by one space. A line that is
-// none of these, or longer than 262,144 bytes, is answered `bad line`. The answers' lines are in answers.rt.
-mod answers;
+// none of these, or longer than 262,144 bytes, is answered `bad line`. The answers' lines are those of `lines`.
 mod asking;
 
-use crate::answers::bad_line;
 use crate::asking::answer;
 use libc::STDIN_FILENO;
 use libc::STDOUT_FILENO;
+use lines::answers::bad_line;
 use texts::reading::find;
 use texts::writing::append_byte;
 use texts::writing::append_bytes;
