@@ -3,14 +3,10 @@
 //   judge SHEET | probe SHEET LIST STATE | phase SHEET LIST STATE | command SHEET LIST STATE COMMAND BUFFER | loop SHEET PRESENT BUFFER
 //
 // Byte strings are lower-case hex, `-` for the empty one; numbers are decimal, 0 to 255; fields are parted by one space. A line that is
-// none of these, or longer than 262,144 bytes, is answered `bad line`. The answers' lines are in answers.rt.
-mod answers;
-mod asking;
-
-use crate::answers::bad_line;
-use crate::asking::answer;
+// none of these, or longer than 262,144 bytes, is answered `bad line`. A line is answered by `lines`.
 use libc::STDIN_FILENO;
 use libc::STDOUT_FILENO;
+use lines::asking::answer;
 use texts::reading::find;
 use texts::writing::append_byte;
 use texts::writing::append_bytes;
@@ -25,43 +21,15 @@ pub struct Input {
     pub over: bool,
 }
 
-// The answer to a line, of which at most one byte too many is held.
-fn line_answer(
-    line: &[u8],
-    sheet: &mut [u8],
-    list: &mut [u8],
-    lent: &mut [u8],
-    out: &mut [u8],
-) -> usize {
-    if 262144 < line.len() {
-        return bad_line(out);
-    }
-    answer(line, sheet, list, lent, out)
-}
-
-// Answers a line.
-fn respond(
-    line: &[u8],
-    sheet: &mut [u8],
-    list: &mut [u8],
-    lent: &mut [u8],
-    out: &mut [u8],
-) -> bool {
-    let end = line_answer(line, sheet, list, lent, out);
+// Answers a line, of which at most one byte too many is held.
+fn respond(line: &[u8], out: &mut [u8]) -> bool {
+    let end = answer(line, out);
     let stop = append_byte(out, end, b'\n');
     io::write_all(STDOUT_FILENO, &out[..stop])
 }
 
 // The next chunk. Where there is none, the input is over, and a last line may have ended with no line feed.
-fn refill(
-    held: usize,
-    chunk: &mut [u8],
-    line: &[u8],
-    sheet: &mut [u8],
-    list: &mut [u8],
-    lent: &mut [u8],
-    out: &mut [u8],
-) -> Input
+fn refill(held: usize, chunk: &mut [u8], line: &[u8], out: &mut [u8]) -> Input
     requires { ⌜ Counts held (now line) ⌝ }
     ensures { λ r. ⌜ Inside r (now (chunk .exit)) (now (line .entry)) ⌝ }
 {
@@ -69,7 +37,7 @@ fn refill(
     let n = io::count(got, chunk);
     if n == 0 {
         if 0 < held {
-            respond(&line[..held], sheet, list, lent, out);
+            respond(&line[..held], out);
         }
         return Input {
             at: 0,
@@ -87,15 +55,7 @@ fn refill(
 }
 
 // One turn: a further chunk is read, or the bytes up to a line feed or the chunk's end are taken, and a line that is whole is answered.
-fn turn(
-    s: Input,
-    chunk: &mut [u8],
-    line: &mut [u8],
-    sheet: &mut [u8],
-    list: &mut [u8],
-    lent: &mut [u8],
-    out: &mut [u8],
-) -> Input
+fn turn(s: Input, chunk: &mut [u8], line: &mut [u8], out: &mut [u8]) -> Input
     requires { ⌜ Inside s (now chunk) (now line) ⌝ }
     ensures { λ r. ⌜ Inside r (now (chunk .exit)) (now (line .exit)) ⌝ }
 {
@@ -103,7 +63,7 @@ fn turn(
     let end = s.end;
     let held = s.held;
     if at == end {
-        return refill(held, chunk, line, sheet, list, lent, out);
+        return refill(held, chunk, line, out);
     }
     let stop = find(&chunk[..end], at, b'\n');
     let taken = append_bytes(line, held, &chunk[at..stop]);
@@ -115,7 +75,7 @@ fn turn(
             over: false,
         };
     }
-    let written = respond(&line[..taken], sheet, list, lent, out);
+    let written = respond(&line[..taken], out);
     Input {
         at: stop + 1,
         end,
@@ -128,9 +88,6 @@ fn turn(
 fn main() {
     let mut chunk = [0u8; 65536];
     let mut line = [0u8; 262145];
-    let mut sheet = [0u8; 131072];
-    let mut list = [0u8; 131072];
-    let mut lent = [0u8; 131072];
     let mut out = [0u8; 262400];
     let mut s = Input {
         at: 0,
@@ -143,15 +100,7 @@ fn main() {
         if s.over {
             return;
         }
-        s = turn(
-            s,
-            &mut chunk,
-            &mut line,
-            &mut sheet,
-            &mut list,
-            &mut lent,
-            &mut out,
-        );
+        s = turn(s, &mut chunk, &mut line, &mut out);
         turns = turns - 1;
     }
 }

@@ -20,24 +20,21 @@ nothing-taken : (chunk line : List ℕ) → Inside (record { at = 0; end = 0; he
 nothing-taken chunk line = record { ahead = omega arith; taken = (omega arith, refl); held = (omega arith, refl) }
 
 abbrev Inv-loop : tie.InvT-loop
-Inv-loop chunk₀ line₀ sheet₀ list₀ lent₀ out₀ s₀ turns₀ chunk line sheet list lent out s turns =
+Inv-loop chunk₀ line₀ out₀ s₀ turns₀ chunk line out s turns =
     Inside s chunk line
     × (65536 ≡ length chunk)
     × (262145 ≡ length line)
-    × (131072 ≡ length sheet)
-    × (131072 ≡ length list)
-    × (131072 ≡ length lent)
     × (262400 ≡ length out)
 
 abbrev μ-loop : tie.MeasureT-loop
-μ-loop chunk₀ line₀ sheet₀ list₀ lent₀ out₀ s₀ turns₀ chunk line sheet list lent out s turns = turns
+μ-loop chunk₀ line₀ out₀ s₀ turns₀ chunk line out s turns = turns
 
 loop-holds : tie.Need-loop-holds Inv-loop μ-loop
-loop-holds c = (nothing-taken _ _, zeros 65536, zeros 262145, zeros 131072, zeros 131072, zeros 131072, zeros 262400)
+loop-holds c = (nothing-taken _ _, zeros 65536, zeros 262145, zeros 262400)
 
 loop-again : tie.Need-loop-again Inv-loop μ-loop
 loop-again c = search needs
 
 pub main-spec : {M : Type 1} → statement M
 main-spec =
-    tie.close (tie.spec Inv-loop μ-loop loop-holds (λ c. search needs) (λ c. search needs) (λ c. search needs) (λ c. search needs) (λ c. search needs) (λ c. search needs) (λ c. search needs) (λ c κs. search needs) (λ c. search needs) (λ c. search needs) loop-again (λ c. search needs))
+    tie.close (tie.spec Inv-loop μ-loop loop-holds (λ c. search needs) (λ c. search needs) (λ c. search needs) (λ c. search needs) (λ c κs. search needs) (λ c. search needs) (λ c. search needs) loop-again (λ c. search needs))

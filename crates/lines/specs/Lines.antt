@@ -1,0 +1,94 @@
+-- The line of each answer, as ASCII bytes: a word for its case, then its numbers, then the lent buffer, fields parted by one space.
+-- Assumes nothing.
+use Prim.Native.Nat.{ℕ, zero, suc}
+use mathlib.Core.List.{List, [], _∷_, _++_}
+use lib.ListN.{getD}
+use Rattle.bargewicker.specs.Questions.{Question, judge, probe-in, phase-from, command-in, loop-with, reply, lent, buffer-after}
+use Rattle.bargewicker.specs.Numbers.{numbers}
+use Rattle.texts.specs.Texts.{number-text, hex-text}
+
+-- the answer to a line that is no question; the words of the cases
+abbrev pub bad-line : List ℕ
+bad-line = 98 ∷ 97 ∷ 100 ∷ 32 ∷ 108 ∷ 105 ∷ 110 ∷ 101 ∷ []
+
+abbrev pub refused-word : List ℕ
+refused-word = 114 ∷ 101 ∷ 102 ∷ 117 ∷ 115 ∷ 101 ∷ 100 ∷ []
+
+abbrev pub accepted-word : List ℕ
+accepted-word = 97 ∷ 99 ∷ 99 ∷ 101 ∷ 112 ∷ 116 ∷ 101 ∷ 100 ∷ []
+
+abbrev pub none-word : List ℕ
+none-word = 110 ∷ 111 ∷ 110 ∷ 101 ∷ []
+
+abbrev pub clause-word : List ℕ
+clause-word = 99 ∷ 108 ∷ 97 ∷ 117 ∷ 115 ∷ 101 ∷ []
+
+abbrev pub stay-word : List ℕ
+stay-word = 115 ∷ 116 ∷ 97 ∷ 121 ∷ []
+
+abbrev pub do-word : List ℕ
+do-word = 100 ∷ 111 ∷ []
+
+abbrev pub loop-word : List ℕ
+loop-word = 108 ∷ 111 ∷ 111 ∷ 112 ∷ []
+
+abbrev pub ignored-word : List ℕ
+ignored-word = 105 ∷ 103 ∷ 110 ∷ 111 ∷ 114 ∷ 101 ∷ 100 ∷ []
+
+abbrev pub handled-word : List ℕ
+handled-word = 104 ∷ 97 ∷ 110 ∷ 100 ∷ 108 ∷ 101 ∷ 100 ∷ []
+
+abbrev pub free-word : List ℕ
+free-word = 102 ∷ 114 ∷ 101 ∷ 101 ∷ []
+
+-- a word and numbers behind it, a space before each
+unfoldable pub said : List ℕ → List ℕ → List ℕ
+said text [] = text
+said text (n ∷ ns) = said (text ++ number-text n) ns
+
+-- a string of bytes as a further field: a space, then its hex digits, `-` for the empty one
+abbrev pub string-field : List ℕ → List ℕ
+string-field [] = 32 ∷ 45 ∷ []
+string-field (b ∷ bs) = 32 ∷ hex-text (b ∷ bs)
+
+-- an answer's numbers are those of the paper: a refusal's number, or 0, the number of the case and its values. Each case has its word
+unfoldable pub text-of : List (List ℕ) → List ℕ → List ℕ
+text-of words [] = []
+text-of words (suc n ∷ rest) = said refused-word (suc n ∷ [])
+text-of words (zero ∷ []) = getD words 0 []
+text-of words (zero ∷ n ∷ values) = said (getD words n []) values
+
+-- each question's cases, from 0 on
+abbrev pub judge-text : List ℕ → List ℕ
+judge-text = text-of (accepted-word ∷ [])
+
+abbrev pub probe-text : List ℕ → List ℕ
+probe-text = text-of (none-word ∷ clause-word ∷ [])
+
+abbrev pub phase-text : List ℕ → List ℕ
+phase-text = text-of (none-word ∷ stay-word ∷ do-word ∷ loop-word ∷ [])
+
+abbrev pub command-text : List ℕ → List ℕ
+command-text = text-of (ignored-word ∷ handled-word ∷ [])
+
+abbrev pub loop-text : List ℕ → List ℕ
+loop-text = text-of (free-word ∷ loop-word ∷ [])
+
+-- with the lent buffer as it is after the call
+abbrev pub command-line : List ℕ → List ℕ → List ℕ
+command-line ns final = command-text ns ++ string-field final
+
+abbrev pub loop-line : List ℕ → List ℕ → List ℕ
+loop-line ns final = loop-text ns ++ string-field final
+
+-- the line of a question's answer by the rules
+unfoldable pub line-of : Question → List ℕ
+line-of (judge b) = judge-text (numbers (reply (judge b)))
+line-of (probe-in b l q) = probe-text (numbers (reply (probe-in b l q)))
+line-of (phase-from b l q) = phase-text (numbers (reply (phase-from b l q)))
+line-of (command-in b l q m out) =
+    let r = reply (command-in b l q m out) in
+    command-line (numbers r) (buffer-after r out)
+line-of (loop-with b present out) =
+    let r = reply (loop-with b present out) in
+    loop-line (numbers r) (buffer-after r out)

@@ -1,0 +1,165 @@
+// The lines of the answers, each written from the buffer's front on; what is answered is the place behind it. What does not fit is cut
+// off at the buffer's end.
+use bargewicker::CommandAnswer;
+use bargewicker::Judgement;
+use bargewicker::LoopAnswer;
+use bargewicker::PhaseAnswer;
+use bargewicker::ProbeAnswer;
+use bargewicker::refusal_number;
+use bodies::clauses::Referrer;
+use model::OwnState;
+use model::Refusal;
+use node::probing::Ending;
+use texts::writing::append_byte;
+use texts::writing::append_bytes;
+use texts::writing::append_hex;
+use texts::writing::append_number;
+ghost use mathlib.Core.List.{[], _∷_};
+ghost use Rattle.model.specs.Refusals.{number-of};
+ghost use Rattle.bodies.specs.Referrers.{reads-as};
+ghost use Rattle.node.specs.Probing.{ending-as};
+ghost use Rattle.bargewicker.specs.Numbers.{referrer-numbers, settled-numbers};
+ghost use Rattle.bargewicker.specs.Answers.{judgement-numbers, probe-numbers, phase-answer-numbers, command-numbers, loop-answer-numbers};
+ghost use Rattle.texts.specs.Texts.{Appended};
+ghost use Rattle.lines.specs.Lines.{bad-line, clause-word, refused-word, string-field, said, judge-text, probe-text, phase-text, command-text, loop-text, command-line, loop-line};
+
+// A line that is no question.
+pub fn bad_line(out: &mut [u8]) -> usize
+    ensures { λ r. ⌜ Appended (now (out .entry)) (now (out .exit)) 0 bad-line r ⌝ }
+{
+    append_bytes(out, 0, b"bad line")
+}
+
+// A word and a number.
+fn say_one(word: &[u8], x: u64, out: &mut [u8]) -> usize
+    ensures { λ r. ⌜ Appended (now (out .entry)) (now (out .exit)) 0 (said (now (word .entry)) (x ∷ [])) r ⌝ }
+{
+    let end = append_bytes(out, 0, word);
+    append_number(out, end, x)
+}
+
+// A word and two numbers.
+fn say_two(word: &[u8], x: u64, y: u64, out: &mut [u8]) -> usize
+    ensures { λ r. ⌜ Appended (now (out .entry)) (now (out .exit)) 0 (said (now (word .entry)) (x ∷ y ∷ [])) r ⌝ }
+{
+    let end = say_one(word, x, out);
+    append_number(out, end, y)
+}
+
+// A word and three numbers.
+fn say_three(word: &[u8], x: u64, y: u64, z: u64, out: &mut [u8]) -> usize
+    ensures { λ r. ⌜ Appended (now (out .entry)) (now (out .exit)) 0 (said (now (word .entry)) (x ∷ y ∷ z ∷ [])) r ⌝ }
+{
+    let end = say_two(word, x, y, out);
+    append_number(out, end, z)
+}
+
+// refused NUMBER
+fn refused(x: Refusal, out: &mut [u8]) -> usize
+    ensures { λ r. ⌜ Appended (now (out .entry)) (now (out .exit)) 0 (said refused-word (number-of x ∷ [])) r ⌝ }
+{
+    say_one(b"refused", refusal_number(x), out)
+}
+
+// A string of bytes as a further field: a space, then its hex digits, `-` for the empty one.
+fn append_string(out: &mut [u8], at: usize, bytes: &[u8]) -> usize
+    ensures { λ r. ⌜ Appended (now (out .entry)) (now (out .exit)) at (string-field (now (bytes .entry))) r ⌝ }
+{
+    let next = append_byte(out, at, b' ');
+    if bytes.len() == 0 {
+        return append_byte(out, next, b'-');
+    }
+    append_hex(out, next, bytes)
+}
+
+// accepted
+pub fn judge_line(answer: Judgement, out: &mut [u8]) -> usize
+    ensures { λ r. ⌜ Appended (now (out .entry)) (now (out .exit)) 0 (judge-text (judgement-numbers answer)) r ⌝ }
+{
+    match answer {
+        Judgement::Accepted => append_bytes(out, 0, b"accepted"),
+        Judgement::Refused(x) => refused(x, out),
+    }
+}
+
+// clause NUMBER REFERRER TARGET
+fn clause_line(i: usize, referrer: Referrer, out: &mut [u8]) -> usize
+    ensures { λ r. ⌜ Appended (now (out .entry)) (now (out .exit)) 0 (said clause-word (i ∷ referrer-numbers (reads-as referrer))) r ⌝ }
+{
+    match referrer {
+        Referrer::MoveTo(q) => say_three(b"clause", i as u64, 0, q.0 as u64, out),
+        Referrer::Do(a) => say_three(b"clause", i as u64, 1, a as u64, out),
+        Referrer::Stay => say_three(b"clause", i as u64, 2, 0, out),
+    }
+}
+
+// none, or clause NUMBER REFERRER TARGET
+pub fn probe_line(answer: ProbeAnswer, out: &mut [u8]) -> usize
+    ensures { λ r. ⌜ Appended (now (out .entry)) (now (out .exit)) 0 (probe-text (probe-numbers answer)) r ⌝ }
+{
+    match answer {
+        ProbeAnswer::Refused(x) => refused(x, out),
+        ProbeAnswer::Nothing => append_bytes(out, 0, b"none"),
+        ProbeAnswer::Clause(i, referrer) => clause_line(i, referrer, out),
+    }
+}
+
+// none STATE MOVES, stay STATE MOVES, or do STATE MOVES COMMAND
+fn settled_line(ending: Ending, q: OwnState, moves: usize, out: &mut [u8]) -> usize
+    ensures { λ r. ⌜ Appended (now (out .entry)) (now (out .exit)) 0 (phase-text (0 ∷ settled-numbers (ending-as ending) (q .0) moves)) r ⌝ }
+{
+    match ending {
+        Ending::ByNone => say_two(b"none", q.0 as u64, moves as u64, out),
+        Ending::ByStay => say_two(b"stay", q.0 as u64, moves as u64, out),
+        Ending::ByDo(c) => say_three(b"do", q.0 as u64, moves as u64, c as u64, out),
+    }
+}
+
+// The same, or loop STATE MOVES
+pub fn phase_line(answer: PhaseAnswer, out: &mut [u8]) -> usize
+    ensures { λ r. ⌜ Appended (now (out .entry)) (now (out .exit)) 0 (phase-text (phase-answer-numbers answer)) r ⌝ }
+{
+    match answer {
+        PhaseAnswer::Refused(x) => refused(x, out),
+        PhaseAnswer::Settled(ending, q, moves) => settled_line(ending, q, moves, out),
+        PhaseAnswer::Loops(q, moves) => say_two(b"loop", q.0 as u64, moves as u64, out),
+    }
+}
+
+// handled STATE WRITTEN, or ignored STATE 0
+fn handling_line(answer: CommandAnswer, out: &mut [u8]) -> usize
+    ensures { λ r. ⌜ Appended (now (out .entry)) (now (out .exit)) 0 (command-text (command-numbers answer)) r ⌝ }
+{
+    match answer {
+        CommandAnswer::Refused(x) => refused(x, out),
+        CommandAnswer::Ignored(q) => say_two(b"ignored", q.0 as u64, 0, out),
+        CommandAnswer::Handled(q, n) => say_two(b"handled", q.0 as u64, n as u64, out),
+    }
+}
+
+// The same, and the whole buffer
+pub fn command_line(answer: CommandAnswer, lent: &[u8], out: &mut [u8]) -> usize
+    ensures { λ r. ⌜ Appended (now (out .entry)) (now (out .exit)) 0 (command-line (command-numbers answer) (now (lent .entry))) r ⌝ }
+{
+    let end = handling_line(answer, out);
+    append_string(out, end, lent)
+}
+
+// loop CONFIGURATION STATE, or free MOVES
+fn looping_line(answer: LoopAnswer, out: &mut [u8]) -> usize
+    ensures { λ r. ⌜ Appended (now (out .entry)) (now (out .exit)) 0 (loop-text (loop-answer-numbers answer)) r ⌝ }
+{
+    match answer {
+        LoopAnswer::Refused(x) => refused(x, out),
+        LoopAnswer::Loop(k, q) => say_two(b"loop", k as u64, q.0 as u64, out),
+        LoopAnswer::Free(moves) => say_one(b"free", moves as u64, out),
+    }
+}
+
+// The same, and the whole buffer
+pub fn loop_line(answer: LoopAnswer, lent: &[u8], out: &mut [u8]) -> usize
+    ensures { λ r. ⌜ Appended (now (out .entry)) (now (out .exit)) 0 (loop-line (loop-answer-numbers answer) (now (lent .entry))) r ⌝ }
+{
+    let end = looping_line(answer, out);
+    append_string(out, end, lent)
+}
