@@ -13,6 +13,7 @@ use texts::reading::first_field;
 use texts::reading::other_fields;
 use texts::reading::read_number;
 ghost use mathlib.Core.Path.{_≡_};
+ghost use lib.ListN.{length};
 ghost use Rattle.bargewicker.specs.Questions.{judge, probe-in, phase-from, command-in, loop-with};
 ghost use Rattle.texts.specs.Texts.{Appended};
 ghost use Rattle.lines.specs.Lines.{line-of};
@@ -62,6 +63,13 @@ fn verb_of(verb: &[u8], spaces: usize) -> Verb
     Verb::Other
 }
 
+// Room for a string of bytes: a line of at most 262,144 bytes has none that is longer.
+fn blank() -> [u8; 131072]
+    ensures { λ r. ⌜ length r ≡ 131072 ⌝ }
+{
+    [0u8; 131072]
+}
+
 // The command is put, and its line written.
 fn put_command(
     sheet: &[u8],
@@ -85,7 +93,7 @@ fn ask_command(sheet: &[u8], list: &[u8], state: u8, fields: &[u8], out: &mut [u
     let Number::Is(command) = asked else {
         return bad_line(out);
     };
-    let mut lent = [0u8; 131072];
+    let mut lent = blank();
     let b = decode(first_field(other_fields(fields)), &mut lent);
     let n = b.length;
     if !b.right {
@@ -127,7 +135,7 @@ fn ask_state(asked: Asked, sheet: &[u8], list: &[u8], fields: &[u8], out: &mut [
 fn ask_list(asked: Asked, sheet: &[u8], fields: &[u8], out: &mut [u8]) -> usize
     ensures { λ r. ⌜ Appended (now (out .entry)) (now (out .exit)) 0 (list-answer asked (now (sheet .entry)) (now (fields .entry))) r ⌝ }
 {
-    let mut list = [0u8; 131072];
+    let mut list = blank();
     let l = decode(first_field(fields), &mut list);
     let n = l.length;
     if !l.right {
@@ -152,7 +160,7 @@ fn ask_loop(sheet: &[u8], fields: &[u8], out: &mut [u8]) -> usize
     let Number::Is(present) = asked else {
         return bad_line(out);
     };
-    let mut lent = [0u8; 131072];
+    let mut lent = blank();
     let b = decode(first_field(other_fields(fields)), &mut lent);
     let n = b.length;
     if !b.right {
@@ -177,7 +185,7 @@ fn ask_sheet(verb: Verb, sheet: &[u8], fields: &[u8], out: &mut [u8]) -> usize
 fn ask_fields(verb: Verb, fields: &[u8], out: &mut [u8]) -> usize
     ensures { λ r. ⌜ Appended (now (out .entry)) (now (out .exit)) 0 (fields-answer verb (now (fields .entry))) r ⌝ }
 {
-    let mut sheet = [0u8; 131072];
+    let mut sheet = blank();
     let s = decode(first_field(fields), &mut sheet);
     let n = s.length;
     if !s.right {
