@@ -1,4 +1,3 @@
-// The lines of questions and of their answers: `asking` reads a line, puts its question and writes the answer by `answers`. Nothing is
-// asked of a caller beforehand. What the lines are is in specs/Lines.antt and specs/Asking.antt.
+// The lines of answers, one for each question that `questions` is asked. Nothing is asked of a caller beforehand.
+// What the lines are is in specs/Lines.antt.
 pub mod answers;
-pub mod asking;

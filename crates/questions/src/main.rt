@@ -3,10 +3,10 @@
 //   judge SHEET | probe SHEET LIST STATE | phase SHEET LIST STATE | command SHEET LIST STATE COMMAND BUFFER | loop SHEET PRESENT BUFFER
 //
 // Byte strings are lower-case hex, `-` for the empty one; numbers are decimal, 0 to 255; fields are parted by one space. A line that is
-// none of these, or longer than 262,144 bytes, is answered `bad line`. A line is answered by `lines`.
+// none of these, or longer than 262,144 bytes, is answered `bad line`. A line is answered by `asking`.
+use asking::answer;
 use libc::STDIN_FILENO;
 use libc::STDOUT_FILENO;
-use lines::asking::answer;
 use texts::reading::find;
 use texts::writing::append_byte;
 use texts::writing::append_bytes;

@@ -1,0 +1,172 @@
+-- Laws about question lines: what each field that is read, and each question that is put, makes of the line that is written.
+-- Assumes nothing.
+use Prim.Native.Nat.{ℕ, _+_, _≤_, _<_}
+use native.Mathlib.Omega.{arith}
+use mathlib.Core.Path.{_≡_, refl, sym, _∙_, ap}
+use mathlib.Core.Bool.{Bool, true, false, not, _&&_}
+use mathlib.Core.List.{List, [], _∷_, _++_}
+use lib.Dec.{eqb, leb}
+use lib.ListN.{length, take, drop}
+use lib.Seq.{sets-eq, length-sets, take-at}
+use borrow.Author.Tests.{eq-eqb, eqb-true, le-leb, lt-leb}
+use Rattle.model.proofs.Words.{both-ways, and-left, and-right}
+use Rattle.bargewicker.specs.Questions.{judge, probe-in, phase-from, command-in, loop-with, reply}
+use Rattle.bargewicker.specs.Numbers.{numbers, Answered}
+use Rattle.texts.specs.Texts.{Appended}
+use Rattle.texts.specs.Fields.{occurs, number-of, string-right, string-bytes, Decodes}
+use Rattle.texts.specs.declared.reading.Number.{Number}
+use Rattle.texts.specs.declared.reading.Number.the-variants.{Is, Bad}
+use Rattle.texts.specs.declared.reading.Decoded.{Decoded}
+use Rattle.lines.specs.Lines.{bad-line, judge-text, probe-text, phase-text, command-line, loop-line, line-of}
+use Rattle.asking.specs.Asking.{judge-verb, loop-verb, probe-verb, phase-verb, command-verb, same-bytes, is-form, verb-of, first, others, with-string, on-number, with-number, placed-answer, sheet-answer, fields-answer, answer-line}
+use Rattle.asking.specs.declared.Asked.{Asked}
+use Rattle.asking.specs.declared.Asked.the-variants as A
+use Rattle.asking.specs.declared.Verb.{Verb}
+use Rattle.asking.specs.declared.Verb.the-variants as W
+
+-- ---- the verb
+
+same-of : (a b : List ℕ) → same-bytes a b ≡ true → a ≡ b
+unfolding same-bytes
+same-of [] [] h = refl
+same-of [] (y ∷ ys) h = absurd (let z : _≡_ {A = ℕ} 0 1 = cc in omega arith)
+same-of (x ∷ xs) [] h = absurd (let z : _≡_ {A = ℕ} 0 1 = cc in omega arith)
+same-of (x ∷ xs) (y ∷ ys) h =
+    let e : x ≡ y = eqb-true x y (and-left (eqb x y) (same-bytes xs ys) h) in
+    let f : xs ≡ ys = same-of xs ys (and-right (eqb x y) (same-bytes xs ys) h) in
+    cc
+
+same-self : (a : List ℕ) → same-bytes a a ≡ true
+unfolding same-bytes
+same-self [] = refl
+same-self (x ∷ xs) = rw (eq-eqb x x refl) (same-self xs)
+
+pub form-told : (a b : List ℕ) (r : Bool) (spaces n : ℕ) → (r ≡ true → a ≡ b) × (a ≡ b → r ≡ true) → (r && eqb spaces n) ≡ is-form a b spaces n
+unfolding is-form
+form-told a b r spaces n (there, back) =
+    let e : r ≡ same-bytes a b = both-ways r (same-bytes a b) (λ h. let f = there h in rw (sym f) (same-self a)) (λ h. back (same-of a b h)) in
+    ap (λ (x : Bool). x && eqb spaces n) e
+
+-- the tests of a verb, one behind the other
+module _ (v : List ℕ) (n : ℕ) where
+  pub verb-judge : is-form v judge-verb n 1 ≡ true → W.Judge ≡ verb-of v n
+  unfolding verb-of
+  verb-judge a = rw a
+
+  pub verb-loop : is-form v judge-verb n 1 ≡ false → is-form v loop-verb n 3 ≡ true → W.Loop ≡ verb-of v n
+  unfolding verb-of
+  verb-loop a b = rw (a, b)
+
+  pub verb-probe : is-form v judge-verb n 1 ≡ false → is-form v loop-verb n 3 ≡ false → is-form v probe-verb n 3 ≡ true → W.Placed A.Probe ≡ verb-of v n
+  unfolding verb-of
+  verb-probe a b c = rw (a, b, c)
+
+  pub verb-phase : is-form v judge-verb n 1 ≡ false → is-form v loop-verb n 3 ≡ false → is-form v probe-verb n 3 ≡ false → is-form v phase-verb n 3 ≡ true
+      → W.Placed A.Phase ≡ verb-of v n
+  unfolding verb-of
+  verb-phase a b c d = rw (a, b, c, d)
+
+  pub verb-command : is-form v judge-verb n 1 ≡ false → is-form v loop-verb n 3 ≡ false → is-form v probe-verb n 3 ≡ false → is-form v phase-verb n 3 ≡ false
+      → is-form v command-verb n 5 ≡ true → W.Placed A.Command ≡ verb-of v n
+  unfolding verb-of
+  verb-command a b c d e = rw (a, b, c, d, e)
+
+  pub verb-other : is-form v judge-verb n 1 ≡ false → is-form v loop-verb n 3 ≡ false → is-form v probe-verb n 3 ≡ false → is-form v phase-verb n 3 ≡ false
+      → is-form v command-verb n 5 ≡ false → W.Other ≡ verb-of v n
+  unfolding verb-of
+  verb-other a b c d e = rw (a, b, c, d, e)
+
+-- ---- fields
+
+flipped : (b c : Bool) → not b ≡ c → b ≡ not c
+flipped true c e = ap not e
+flipped false c e = ap not e
+
+-- a string of bytes, wrong or read
+module _ (l m : List ℕ) (end : ℕ) (f field before after : List ℕ) (r : Decoded) (rest : List ℕ → List ℕ → List ℕ) (e : field ≡ first f) (d : Decodes field before after r)
+    (k : length before ≡ 131072) where
+  right-is : r .right ≡ string-right 131072 (first f)
+  right-is = let h = d .right in rw (k, e) at h
+
+  pub string-wrong : not (r .right) ≡ true → Appended l m 0 bad-line end → Appended l m 0 (with-string f rest) end
+  unfolding with-string
+  string-wrong h a = let g : string-right 131072 (first f) ≡ false = sym right-is ∙ flipped (r .right) true h in rw g a
+
+  part-is : r .length ≤ length after → take (r .length) after ≡ string-bytes 131072 (first f)
+  part-is c =
+      let s : List ℕ = string-bytes (length before) field in
+      let x : length after ≡ length before = ap length (d .buffer) ∙ length-sets before 0 s in
+      let y : after ≡ s ++ drop (0 + length s) before = d .buffer ∙ sets-eq s before 0 (omega (arith, d .length)) in
+      let z : take (r .length) after ≡ s = ap (take (r .length)) y ∙ take-at s (drop (0 + length s) before) (r .length) (sym (d .length)) in
+      rw (k, e) at z
+
+  pub string-read : r .length ≤ length after → not (r .right) ≡ false → (g : List ℕ) → g ≡ others f → Appended l m 0 (rest (take (r .length) after) g) end
+      → Appended l m 0 (with-string f rest) end
+  unfolding with-string
+  string-read c h g x a =
+      let y : string-right 131072 (first f) ≡ true = sym right-is ∙ flipped (r .right) false h in
+      let z : Appended l m 0 (rest (string-bytes 131072 (first f)) (others f)) end = rw (part-is c, x) at a in
+      rw y z
+
+-- a number, wrong or read
+module _ (l m : List ℕ) (end : ℕ) (f field : List ℕ) (r : Number) (rest : ℕ → List ℕ → List ℕ) (e : field ≡ first f) (v : r ≡ number-of field) where
+  pub number-wrong : r ≡ Bad → Appended l m 0 bad-line end → Appended l m 0 (with-number f rest) end
+  unfolding with-number on-number
+  number-wrong h a = let g : number-of (first f) ≡ Bad = ap number-of (sym e) ∙ sym v ∙ h in rw g a
+
+  pub number-read : (n : ℕ) → r ≡ Is n → (g : List ℕ) → g ≡ others f → Appended l m 0 (rest n g) end → Appended l m 0 (with-number f rest) end
+  unfolding with-number on-number
+  number-read n h g x a =
+      let y : number-of (first f) ≡ Is n = ap number-of (sym e) ∙ sym v ∙ h in
+      let z : Appended l m 0 (rest n (others f)) end = rw x at a in
+      rw y z
+
+-- ---- questions
+
+module _ (l m : List ℕ) (end : ℕ) (ns : List ℕ) where
+  pub command-put : (b c : List ℕ) (q x : ℕ) (out after : List ℕ) → Answered (command-in b c q x out) ns after → Appended l m 0 (command-line ns after) end
+      → Appended l m 0 (line-of (command-in b c q x out)) end
+  unfolding line-of
+  command-put b c q x out after h a = rw (h .numbers-are, h .buffer-is) at a
+
+  pub loop-put : (b : List ℕ) (p : ℕ) (out after : List ℕ) → Answered (loop-with b p out) ns after → Appended l m 0 (loop-line ns after) end
+      → Appended l m 0 (line-of (loop-with b p out)) end
+  unfolding line-of
+  loop-put b p out after h a = rw (h .numbers-are, h .buffer-is) at a
+
+  pub probe-put : (k : Asked) (b c : List ℕ) (q : ℕ) (f : List ℕ) → k ≡ A.Probe → ns ≡ numbers (reply (probe-in b c q)) → Appended l m 0 (probe-text ns) end
+      → Appended l m 0 (placed-answer k b c q f) end
+  unfolding line-of placed-answer
+  probe-put k b c q f h e a = rw h (rw e at a)
+
+  pub phase-put : (k : Asked) (b c : List ℕ) (q : ℕ) (f : List ℕ) → k ≡ A.Phase → ns ≡ numbers (reply (phase-from b c q)) → Appended l m 0 (phase-text ns) end
+      → Appended l m 0 (placed-answer k b c q f) end
+  unfolding line-of placed-answer
+  phase-put k b c q f h e a = rw h (rw e at a)
+
+  pub judge-put : (v : Verb) (b f : List ℕ) → v ≡ W.Judge → ns ≡ numbers (reply (judge b)) → Appended l m 0 (judge-text ns) end
+      → Appended l m 0 (sheet-answer v b f) end
+  unfolding line-of sheet-answer
+  judge-put v b f h e a = rw h (rw e at a)
+
+-- the same kind of question, and the same verb, are answered the same
+module _ (l m : List ℕ) (end : ℕ) where
+  pub same-placed : (j k : Asked) (b c : List ℕ) (q : ℕ) (f : List ℕ) → j ≡ k → Appended l m 0 (placed-answer k b c q f) end → Appended l m 0 (placed-answer j b c q f) end
+  same-placed j k b c q f h a = rw h a
+
+  pub same-verb : (v w : Verb) (b f : List ℕ) → v ≡ w → Appended l m 0 (sheet-answer w b f) end → Appended l m 0 (sheet-answer v b f) end
+  same-verb v w b f h a = rw h a
+
+-- ---- the line
+
+module _ (l m : List ℕ) (end : ℕ) (line : List ℕ) where
+  pub too-long : 262144 < length line → Appended l m 0 bad-line end → Appended l m 0 (answer-line line) end
+  unfolding answer-line
+  too-long h a = rw (lt-leb (length line) 262144 h) a
+
+  pub line-asked : (v : Verb) (n : ℕ) (field f : List ℕ) → length line ≤ 262144 → field ≡ first line → n ≡ occurs 32 line → v ≡ verb-of field n → f ≡ others line
+      → Appended l m 0 (fields-answer v f) end → Appended l m 0 (answer-line line) end
+  unfolding answer-line
+  line-asked v n field f h x y z w a =
+      let u : v ≡ verb-of (first line) (occurs 32 line) = z ∙ ap (λ (t : List ℕ). verb-of t n) x ∙ ap (verb-of (first line)) y in
+      rw (le-leb (length line) 262144 h) (rw (u, w) at a)
