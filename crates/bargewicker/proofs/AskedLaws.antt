@@ -23,7 +23,7 @@ use Rattle.sheet.specs.declared.judging.Judged.{Judged}
 use Rattle.sheet.specs.declared.judging.Judged.the-variants.{Accepted as AcceptedAt, Refused}
 use Rattle.sheet.proofs.VerdictLaws.{told-accepted, told-refused}
 use Rattle.sheet.proofs.Reading.{own-states-in}
-use Rattle.sheet.proofs.ReaderLaws.{classes-few}
+use Rattle.judged.proofs.ReaderLaws.{classes-few}
 use Rattle.node.specs.Lists.{pairs-right}
 use Rattle.node.specs.Sets.{Shows}
 use Rattle.node.specs.Probing.{Crewed}

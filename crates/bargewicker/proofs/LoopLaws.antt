@@ -18,7 +18,7 @@ use Rattle.sheet.specs.Judgement.{Stands}
 use Rattle.sheet.specs.declared.judging.Places.{Places}
 use Rattle.sheet.proofs.Contents.{counted}
 use Rattle.sheet.proofs.Reading.{child-classes-in}
-use Rattle.sheet.proofs.ReaderLaws.{stands-right}
+use Rattle.judged.proofs.ReaderLaws.{stands-right}
 use Rattle.configurations.specs.Configurations.{chosen, name-count, list-of}
 use Rattle.loops.specs.Cells.{CellsAre, cells-of}
 use Rattle.loops.specs.Search.{Held, Searched}

@@ -2,10 +2,10 @@
 use bargewicker::LoopAnswer;
 use bargewicker::loop_question;
 use bargewicker::refusal_number;
+use judged::readers::class_count;
 use model::OwnState;
 use sheet::judging::Judged;
 use sheet::judging::judge;
-use sheet::readers::class_count;
 use texts::writing::append_byte;
 use texts::writing::append_bytes;
 use texts::writing::append_decimal;

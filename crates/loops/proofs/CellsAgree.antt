@@ -24,7 +24,7 @@ use Rattle.sheet.specs.declared.judging.Places.{Places}
 use Rattle.bodies.proofs.Bits.{has-none, some-bit}
 use Rattle.sheet.proofs.Contents.{counted}
 use Rattle.sheet.proofs.Reading.{child-classes-in, name-set-in}
-use Rattle.sheet.proofs.ReaderLaws.{stands-right}
+use Rattle.judged.proofs.ReaderLaws.{stands-right}
 use Rattle.node.specs.Sets.{Small}
 use Rattle.configurations.specs.Configurations.{cell, cells}
 use Rattle.loops.specs.Cells.{cell-present, present-among, present-cells, Spreads, counts-on}

@@ -22,7 +22,7 @@ use Rattle.sheet.specs.Judgement.{Stands}
 use Rattle.sheet.specs.declared.judging.Places.{Places}
 use Rattle.sheet.proofs.Contents.{counted}
 use Rattle.sheet.proofs.Reading.{own-states-in, state-of-past}
-use Rattle.sheet.proofs.ReaderLaws.{stands-right}
+use Rattle.judged.proofs.ReaderLaws.{stands-right}
 use Rattle.sheet.proofs.Sound.{sound}
 use Rattle.node.specs.Probing.{Crewed, ending-as, turn-as, Turns}
 use Rattle.node.specs.declared.probing.Ending.{Ending}

@@ -1,9 +1,9 @@
 // One configuration: each state is probed once, and the graph of moves is chased from every state.
+use judged::readers::state_count;
 use model::OwnState;
 use node::probing::Turn;
 use node::probing::turn_from;
 use sheet::judging::Places;
-use sheet::readers::state_count;
 ghost use mathlib.Core.Path.{_≡_};
 ghost use Prim.Native.Nat.{_<_, _≤_};
 ghost use Rattle.sheet.specs.Judgement.{Stands};

@@ -21,13 +21,13 @@ use Rattle.bodies.specs.GuardRecords.{guard-from}
 use Rattle.sheet.specs.Judgement.{Stands}
 use Rattle.sheet.specs.Reading.{when-in, action-in, state-in, class-in, class-of}
 use Rattle.bodies.specs.Referrers.{reads-as}
-use Rattle.sheet.specs.Runs.{RunIs}
+use Rattle.judged.specs.Runs.{RunIs}
 use Rattle.sheet.specs.declared.judging.Places.{Places}
-use Rattle.sheet.specs.declared.held.Run.{Run}
+use Rattle.judged.specs.declared.held.Run.{Run}
 use Rattle.bodies.specs.declared.clauses.Referrer.the-variants.{MoveTo, Do, Stay}
 use Rattle.bodies.specs.declared.clauses.Referrer.{Referrer}
 use Rattle.sheet.proofs.Contents.{counted}
-use Rattle.sheet.proofs.ReaderLaws.{stands-right}
+use Rattle.judged.proofs.ReaderLaws.{stands-right}
 use Rattle.sheet.proofs.Rules.{accepted-right}
 use Rattle.sheet.proofs.Reading.{state-of-in, state-of-past, actions-in, action-of-in, mem-whens}
 use Rattle.sheet.proofs.Sound.{referrers-in}

@@ -2,9 +2,9 @@
 use crate::probing::Ending;
 use crate::probing::Turn;
 use crate::probing::turn_from;
+use judged::readers::state_count;
 use model::OwnState;
 use sheet::judging::Places;
-use sheet::readers::state_count;
 ghost use Rattle.sheet.specs.Judgement.{Stands};
 ghost use Rattle.node.specs.Phases.{Phases};
 

@@ -3,8 +3,6 @@ pub mod Contents
 pub mod Rules
 pub mod Reading
 pub mod Sound
-pub mod ReaderLaws
 pub mod JudgeLaws
 pub mod PlaceLaws
 pub mod VerdictLaws
-pub mod HeldLaws

@@ -2,5 +2,4 @@ pub mod Contents
 pub mod Rules
 pub mod Reading
 pub mod Judgement
-pub mod Runs
 pub mod ChildList

@@ -6,8 +6,8 @@ use mathlib.Core.List.{List}
 use Prim.Native.Nat.{ℕ}
 use Rattle.bodies.specs.Clauses.{count-at, count-sum}
 use borrow.Author.Needs.{needs}
-use Rattle.sheet.proofs.held.clauses_at.Statement.{statement}
-use Rattle.sheet.proofs.held.clauses_at.Tie as tie
+use Rattle.judged.proofs.held.clauses_at.Statement.{statement}
+use Rattle.judged.proofs.held.clauses_at.Tie as tie
 
 returns : tie.Need-returns
 returns c =

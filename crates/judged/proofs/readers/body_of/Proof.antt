@@ -34,25 +34,25 @@ use denote.Triple.Table.{entered, cited}
 use denote.Triple.Walked.{says, needs, Stays, stay-none, stay-none-slice, walkOf, goes-none, goes-none-slice, Walks, ends-at, walked, walk-meets}
 use denote.Exit.{yes}
 use denote.Triple.Clauses.{ensured, lasts}
 use Rattle.sheet.specs.Contents.{body}
 use Rattle.sheet.specs.Judgement.{Stands}
-use Rattle.sheet.specs.declared.held.Sheet.{Sheet}
+use Rattle.judged.specs.declared.held.Sheet.{Sheet}
 use Rattle.sheet.specs.declared.judging.Places.{Places}
 use Rattle.sheet.proofs.judging.Places as P
 use Rattle.sheet.proofs.judging.Places.Laws as P′
-use Rattle.sheet.proofs.HeldLaws.{Held, Slice, slice, Owned, places-make, places-typed, held-typed, Hold, to-hold, goes-hold, hold-said}
-use Rattle.sheet.proofs.held.hold as hold
-use Rattle.sheet.proofs.held.hold.Symbol as hold-def
-use Rattle.sheet.proofs.held.hold.Symbol.{name as #sheet·hold}
-use Rattle.sheet.proofs.held.hold.Met as hold-thm
-use Rattle.sheet.proofs.held.body_in as body-in
-use Rattle.sheet.proofs.held.body_in.Symbol as body-in-def
-use Rattle.sheet.proofs.held.body_in.Symbol.{name as #sheet·body-in}
-use Rattle.sheet.proofs.held.body_in.Met as body-in-thm
-use Rattle.sheet.proofs.readers.body_of.Key.{name as #sheet·body-of}
-use Rattle.sheet.proofs.readers.body_of as body-of
-use Rattle.sheet.proofs.readers.body_of.Statement as stated
-use Rattle.sheet.proofs.readers.body_of.Code as code
+use Rattle.judged.proofs.HeldLaws.{Held, Slice, slice, Owned, places-make, places-typed, held-typed, Hold, to-hold, goes-hold, hold-said}
+use Rattle.judged.proofs.held.hold as hold
+use Rattle.judged.proofs.held.hold.Symbol as hold-def
+use Rattle.judged.proofs.held.hold.Symbol.{name as #sheet·hold}
+use Rattle.judged.proofs.held.hold.Met as hold-thm
+use Rattle.judged.proofs.held.body_in as body-in
+use Rattle.judged.proofs.held.body_in.Symbol as body-in-def
+use Rattle.judged.proofs.held.body_in.Symbol.{name as #sheet·body-in}
+use Rattle.judged.proofs.held.body_in.Met as body-in-thm
+use Rattle.judged.proofs.readers.body_of.Key.{name as #sheet·body-of}
+use Rattle.judged.proofs.readers.body_of as body-of
+use Rattle.judged.proofs.readers.body_of.Statement as stated
+use Rattle.judged.proofs.readers.body_of.Code as code
 
 abbrev stayed : Stays (body-of.ended .signature .params) (body-of.ended .kept)
 stayed = (stay-none-slice (0 ∷ []) tt (plain (λ _. u8)) yes, (stay-none (λ _. P.the-row) yes, (stay-none (λ _. usize) yes, tt)))
@@ -139,5 +139,5 @@ body-of-spec 𝓤 H 𝓜 𝓖 𝓡 =
     entered 𝓤 H (tripleOf 𝓤 H (𝓖 .A) body-of.signature (body-of.spec 𝓤 H (𝓖 .A) (𝓜 .mem) (𝓡 .run)))
     (tables 𝓤 H 𝓜 𝓡 code.env .C) (tables 𝓤 H 𝓜 𝓡 code.env .Λ) #sheet·body-of code.function (code.unfolded 𝓤 H 𝓜 𝓡)
     (body-of-meets 𝓤 H (𝓖 .A) (givenOf 𝓤 H 𝓜 𝓖) (𝓜 .mem) (𝓡 .run) (tablesOf 𝓤 H 𝓜 (tables 𝓤 H 𝓜 𝓡 code.env))
-    (cited 𝓤 H (Hold 𝓤 H (𝓖 .A) (𝓜 .mem) (𝓡 .run)) 𝓜 𝓡 code.env #sheet·hold hold-def.routine code.calls-sheet·held·hold (hold-thm.met 𝓤 H 𝓜 𝓖 𝓡))
-    (cited 𝓤 H (BodyIn 𝓤 H (𝓖 .A) (𝓜 .mem) (𝓡 .run)) 𝓜 𝓡 code.env #sheet·body-in body-in-def.routine code.calls-sheet·held·body-in (body-in-thm.met 𝓤 H 𝓜 𝓖 𝓡)))
+    (cited 𝓤 H (Hold 𝓤 H (𝓖 .A) (𝓜 .mem) (𝓡 .run)) 𝓜 𝓡 code.env #sheet·hold hold-def.routine code.calls-judged·held·hold (hold-thm.met 𝓤 H 𝓜 𝓖 𝓡))
+    (cited 𝓤 H (BodyIn 𝓤 H (𝓖 .A) (𝓜 .mem) (𝓡 .run)) 𝓜 𝓡 code.env #sheet·body-in body-in-def.routine code.calls-judged·held·body-in (body-in-thm.met 𝓤 H 𝓜 𝓖 𝓡)))

@@ -3,10 +3,10 @@
 use Prim.Native.Nat.{_≤_}
 use native.Mathlib.Omega.{arith}
 use lib.ListN.{length}
-use Rattle.sheet.proofs.ReaderLaws.{body-starts, body-ends, body-fits, body-cut}
+use Rattle.judged.proofs.ReaderLaws.{body-starts, body-ends, body-fits, body-cut}
 use borrow.Author.Needs.{needs}
-use Rattle.sheet.proofs.held.cut.Statement.{statement}
-use Rattle.sheet.proofs.held.cut.Tie as tie
+use Rattle.judged.proofs.held.cut.Statement.{statement}
+use Rattle.judged.proofs.held.cut.Tie as tie
 
 -- the first place is before the second, and that is in the sheet
 inside : (c : tie.After-place2) → (c .before .place .result ≤ c .place2 .result) × (c .place2 .result ≤ length (c .before .before .before .args .bytes .now))

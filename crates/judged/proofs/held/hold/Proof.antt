@@ -32,16 +32,16 @@ use denote.Triple.Spec.{Meets, tripleOf}
 use denote.Triple.Table.{entered}
 use denote.Triple.Walked.{says, Stays, stay-none, stay-none-slice, walkOf, goes-none, goes-none-slice, Walks, ends-at, walked, walk-meets}
 use denote.Exit.{yes}
-use Rattle.sheet.specs.declared.held.Sheet.{Sheet}
+use Rattle.judged.specs.declared.held.Sheet.{Sheet}
 use Rattle.sheet.specs.declared.judging.Places.{Places}
-use Rattle.sheet.proofs.held.Sheet.Laws as T′
+use Rattle.judged.proofs.held.Sheet.Laws as T′
 use Rattle.sheet.proofs.judging.Places as P
 use Rattle.sheet.proofs.judging.Places.Laws as P′
-use Rattle.sheet.proofs.HeldLaws.{D, L, Slice, slice, Owned, places-make, places-typed}
-use Rattle.sheet.proofs.held.hold.Key.{name as #sheet·hold}
-use Rattle.sheet.proofs.held.hold as hold
-use Rattle.sheet.proofs.held.hold.Statement as stated
-use Rattle.sheet.proofs.held.hold.Code as code
+use Rattle.judged.proofs.HeldLaws.{D, L, Slice, slice, Owned, places-make, places-typed}
+use Rattle.judged.proofs.held.hold.Key.{name as #sheet·hold}
+use Rattle.judged.proofs.held.hold as hold
+use Rattle.judged.proofs.held.hold.Statement as stated
+use Rattle.judged.proofs.held.hold.Code as code
 
 abbrev stayed : Stays (hold.ended .signature .params) (hold.ended .kept)
 stayed = (stay-none-slice (0 ∷ []) tt (plain (λ _. u8)) yes, (stay-none (λ _. P.the-row) yes, tt))

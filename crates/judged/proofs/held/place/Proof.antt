@@ -1,10 +1,10 @@
 -- `place` gives the place of that number, and the end past the last.
 -- Assumes nothing.
 use native.Mathlib.Omega.{arith}
-use Rattle.sheet.proofs.ReaderLaws.{place-past}
+use Rattle.judged.proofs.ReaderLaws.{place-past}
 use borrow.Author.Needs.{needs}
-use Rattle.sheet.proofs.held.place.Statement.{statement}
-use Rattle.sheet.proofs.held.place.Tie as tie
+use Rattle.judged.proofs.held.place.Statement.{statement}
+use Rattle.judged.proofs.held.place.Tie as tie
 
 returns-7 : tie.Need-returns-7
 returns-7 c = place-past _ _ (c .before .args .k) (omega (arith, c .match .rest .1, c .match .rest .0 .1, c .match .rest .0 .0 .1, c .match .rest .0 .0 .0 .1, c .match .rest .0 .0 .0 .0 .1, c .match .rest .0 .0 .0 .0 .0 .1))

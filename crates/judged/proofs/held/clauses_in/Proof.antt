@@ -33,28 +33,28 @@ use denote.Triple.Table.{entered, cited}
 use denote.Triple.Walked.{says, needs, Stays, stay-none, walkOf, goes-none, Walks, ends-at, walked, walk-meets}
 use denote.Exit.{yes}
 use denote.Triple.Clauses.{ensured, lasts}
 use Rattle.sheet.specs.Contents.{body}
 use Rattle.sheet.specs.Judgement.{Stands}
-use Rattle.sheet.specs.Runs.{RunIs}
-use Rattle.sheet.specs.declared.held.Sheet.{Sheet}
-use Rattle.sheet.specs.declared.held.Run.{Run}
+use Rattle.judged.specs.Runs.{RunIs}
+use Rattle.judged.specs.declared.held.Sheet.{Sheet}
+use Rattle.judged.specs.declared.held.Run.{Run}
 use Rattle.model.specs.declared.OwnState.{OwnState}
-use Rattle.sheet.proofs.held.Sheet.Laws as T′
+use Rattle.judged.proofs.held.Sheet.Laws as T′
 use Rattle.sheet.proofs.judging.Places as P
 use Rattle.sheet.proofs.judging.Places.Laws as P′
-use Rattle.sheet.proofs.held.Run as R
-use Rattle.sheet.proofs.held.Run.Laws as R′
+use Rattle.judged.proofs.held.Run as R
+use Rattle.judged.proofs.held.Run.Laws as R′
 use Rattle.model.proofs.OwnState as O
 use Rattle.model.proofs.OwnState.Laws as O′
-use Rattle.sheet.proofs.HeldLaws.{D, L, Held, Slice, slice, Owned, Own, places-are, places-make, held-typed, bytes-out}
-use Rattle.sheet.proofs.held.clauses_at as callee
-use Rattle.sheet.proofs.held.clauses_at.Symbol as callee-def
-use Rattle.sheet.proofs.held.clauses_at.Symbol.{name as #sheet·clauses-at}
-use Rattle.sheet.proofs.held.clauses_at.Met as callee-thm
-use Rattle.sheet.proofs.held.clauses_in.Key.{name as #sheet·clauses-in}
-use Rattle.sheet.proofs.held.clauses_in as clauses-in
-use Rattle.sheet.proofs.held.clauses_in.Statement as stated
-use Rattle.sheet.proofs.held.clauses_in.Code as code
+use Rattle.judged.proofs.HeldLaws.{D, L, Held, Slice, slice, Owned, Own, places-are, places-make, held-typed, bytes-out}
+use Rattle.judged.proofs.held.clauses_at as callee
+use Rattle.judged.proofs.held.clauses_at.Symbol as callee-def
+use Rattle.judged.proofs.held.clauses_at.Symbol.{name as #sheet·clauses-at}
+use Rattle.judged.proofs.held.clauses_at.Met as callee-thm
+use Rattle.judged.proofs.held.clauses_in.Key.{name as #sheet·clauses-in}
+use Rattle.judged.proofs.held.clauses_in as clauses-in
+use Rattle.judged.proofs.held.clauses_in.Statement as stated
+use Rattle.judged.proofs.held.clauses_in.Code as code
 
 abbrev stayed : Stays (clauses-in.ended .signature .params) (clauses-in.ended .kept)
 stayed = (stay-none (λ κs. Held (κs .0)) yes, (stay-none (λ _. O.the-row) yes, (stay-none (λ _. usize) yes, tt)))
@@ -142,4 +142,4 @@ clauses-in-spec 𝓤 H 𝓜 𝓖 𝓡 =
     entered 𝓤 H (tripleOf 𝓤 H (𝓖 .A) clauses-in.signature (clauses-in.spec 𝓤 H (𝓖 .A) (𝓜 .mem) (𝓡 .run)))
     (tables 𝓤 H 𝓜 𝓡 code.env .C) (tables 𝓤 H 𝓜 𝓡 code.env .Λ) #sheet·clauses-in code.function (code.unfolded 𝓤 H 𝓜 𝓡)
     (clauses-in-meets 𝓤 H (𝓖 .A) (givenOf 𝓤 H 𝓜 𝓖) (𝓜 .mem) (𝓡 .run) (tablesOf 𝓤 H 𝓜 (tables 𝓤 H 𝓜 𝓡 code.env))
-    (cited 𝓤 H (ClausesAt 𝓤 H (𝓖 .A) (𝓜 .mem) (𝓡 .run)) 𝓜 𝓡 code.env #sheet·clauses-at callee-def.routine code.calls-sheet·held·clauses-at (callee-thm.met 𝓤 H 𝓜 𝓖 𝓡)))
+    (cited 𝓤 H (ClausesAt 𝓤 H (𝓖 .A) (𝓜 .mem) (𝓡 .run)) 𝓜 𝓡 code.env #sheet·clauses-at callee-def.routine code.calls-judged·held·clauses-at (callee-thm.met 𝓤 H 𝓜 𝓖 𝓡)))

@@ -5,8 +5,8 @@ use mathlib.Core.Path.{_≡_}
 use mathlib.Core.List.{List, [], _∷_}
 use lib.ListN.{getD}
 use Rattle.bodies.specs.Clauses.{count-at, count-sum}
 use Rattle.sheet.specs.declared.judging.Places.{Places}
-use Rattle.sheet.specs.declared.held.Run.{Run}
+use Rattle.judged.specs.declared.held.Run.{Run}
 
 -- where body k starts; past the last, the end
 abbrev pub place-at : Places → ℕ → ℕ → ℕ

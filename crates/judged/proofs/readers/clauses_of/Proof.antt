@@ -34,32 +34,32 @@ use denote.Triple.Table.{entered, cited}
 use denote.Triple.Walked.{says, needs, Stays, stay-none, stay-none-slice, walkOf, goes-none, goes-none-slice, Walks, ends-at, walked, walk-meets}
 use denote.Exit.{yes}
 use denote.Triple.Clauses.{ensured, lasts}
 use Rattle.sheet.specs.Contents.{body}
 use Rattle.sheet.specs.Judgement.{Stands}
-use Rattle.sheet.specs.Runs.{RunIs}
-use Rattle.sheet.specs.declared.held.Sheet.{Sheet}
-use Rattle.sheet.specs.declared.held.Run.{Run}
+use Rattle.judged.specs.Runs.{RunIs}
+use Rattle.judged.specs.declared.held.Sheet.{Sheet}
+use Rattle.judged.specs.declared.held.Run.{Run}
 use Rattle.model.specs.declared.OwnState.{OwnState}
 use Rattle.sheet.specs.declared.judging.Places.{Places}
 use Rattle.sheet.proofs.judging.Places as P
 use Rattle.sheet.proofs.judging.Places.Laws as P′
-use Rattle.sheet.proofs.held.Run as R
-use Rattle.sheet.proofs.held.Run.Laws as R′
+use Rattle.judged.proofs.held.Run as R
+use Rattle.judged.proofs.held.Run.Laws as R′
 use Rattle.model.proofs.OwnState as O
 use Rattle.model.proofs.OwnState.Laws as O′
-use Rattle.sheet.proofs.HeldLaws.{Held, Slice, slice, Owned, places-make, places-typed, held-typed, Hold, to-hold, goes-hold, hold-said}
-use Rattle.sheet.proofs.held.hold as hold
-use Rattle.sheet.proofs.held.hold.Symbol as hold-def
-use Rattle.sheet.proofs.held.hold.Symbol.{name as #sheet·hold}
-use Rattle.sheet.proofs.held.hold.Met as hold-thm
-use Rattle.sheet.proofs.held.clauses_in as clauses-in
-use Rattle.sheet.proofs.held.clauses_in.Symbol as clauses-in-def
-use Rattle.sheet.proofs.held.clauses_in.Symbol.{name as #sheet·clauses-in}
-use Rattle.sheet.proofs.held.clauses_in.Met as clauses-in-thm
-use Rattle.sheet.proofs.readers.clauses_of.Key.{name as #sheet·clauses-of}
-use Rattle.sheet.proofs.readers.clauses_of as clauses-of
-use Rattle.sheet.proofs.readers.clauses_of.Statement as stated
-use Rattle.sheet.proofs.readers.clauses_of.Code as code
+use Rattle.judged.proofs.HeldLaws.{Held, Slice, slice, Owned, places-make, places-typed, held-typed, Hold, to-hold, goes-hold, hold-said}
+use Rattle.judged.proofs.held.hold as hold
+use Rattle.judged.proofs.held.hold.Symbol as hold-def
+use Rattle.judged.proofs.held.hold.Symbol.{name as #sheet·hold}
+use Rattle.judged.proofs.held.hold.Met as hold-thm
+use Rattle.judged.proofs.held.clauses_in as clauses-in
+use Rattle.judged.proofs.held.clauses_in.Symbol as clauses-in-def
+use Rattle.judged.proofs.held.clauses_in.Symbol.{name as #sheet·clauses-in}
+use Rattle.judged.proofs.held.clauses_in.Met as clauses-in-thm
+use Rattle.judged.proofs.readers.clauses_of.Key.{name as #sheet·clauses-of}
+use Rattle.judged.proofs.readers.clauses_of as clauses-of
+use Rattle.judged.proofs.readers.clauses_of.Statement as stated
+use Rattle.judged.proofs.readers.clauses_of.Code as code
 
 abbrev stayed : Stays (clauses-of.ended .signature .params) (clauses-of.ended .kept)
 stayed = (stay-none-slice (0 ∷ []) tt (plain (λ _. u8)) yes, (stay-none (λ _. P.the-row) yes, (stay-none (λ _. O.the-row) yes, (stay-none (λ _. usize) yes, tt))))
@@ -146,5 +146,5 @@ clauses-of-spec 𝓤 H 𝓜 𝓖 𝓡 =
     entered 𝓤 H (tripleOf 𝓤 H (𝓖 .A) clauses-of.signature (clauses-of.spec 𝓤 H (𝓖 .A) (𝓜 .mem) (𝓡 .run)))
     (tables 𝓤 H 𝓜 𝓡 code.env .C) (tables 𝓤 H 𝓜 𝓡 code.env .Λ) #sheet·clauses-of code.function (code.unfolded 𝓤 H 𝓜 𝓡)
     (clauses-of-meets 𝓤 H (𝓖 .A) (givenOf 𝓤 H 𝓜 𝓖) (𝓜 .mem) (𝓡 .run) (tablesOf 𝓤 H 𝓜 (tables 𝓤 H 𝓜 𝓡 code.env))
-    (cited 𝓤 H (Hold 𝓤 H (𝓖 .A) (𝓜 .mem) (𝓡 .run)) 𝓜 𝓡 code.env #sheet·hold hold-def.routine code.calls-sheet·held·hold (hold-thm.met 𝓤 H 𝓜 𝓖 𝓡))
-    (cited 𝓤 H (ClausesIn 𝓤 H (𝓖 .A) (𝓜 .mem) (𝓡 .run)) 𝓜 𝓡 code.env #sheet·clauses-in clauses-in-def.routine code.calls-sheet·held·clauses-in (clauses-in-thm.met 𝓤 H 𝓜 𝓖 𝓡)))
+    (cited 𝓤 H (Hold 𝓤 H (𝓖 .A) (𝓜 .mem) (𝓡 .run)) 𝓜 𝓡 code.env #sheet·hold hold-def.routine code.calls-judged·held·hold (hold-thm.met 𝓤 H 𝓜 𝓖 𝓡))
+    (cited 𝓤 H (ClausesIn 𝓤 H (𝓖 .A) (𝓜 .mem) (𝓡 .run)) 𝓜 𝓡 code.env #sheet·clauses-in clauses-in-def.routine code.calls-judged·held·clauses-in (clauses-in-thm.met 𝓤 H 𝓜 𝓖 𝓡)))

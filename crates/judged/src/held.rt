@@ -1,14 +1,14 @@
 // A sheet judged once: its bytes with the places of its bodies, read without a copy. The borrow checker covers no function over the
 // struct, so those only make it or take it apart and leave the work to `cut` and `clauses_at`. `readers` has the same with plain parameters.
-use crate::judging::Places;
 use bodies::clauses::count_at;
 use bodies::clauses::count_sum;
 use model::OwnState;
+use sheet::judging::Places;
 ghost use mathlib.Core.Path.{_≡_};
 ghost use Prim.Native.Nat.{_<_};
 ghost use Rattle.sheet.specs.Contents.{body};
 ghost use Rattle.sheet.specs.Judgement.{Stands};
-ghost use Rattle.sheet.specs.Runs.{place-at, RunIs};
+ghost use Rattle.judged.specs.Runs.{place-at, RunIs};
 
 // Bodies by their number in the contents.
 pub const CLASSES: usize = 0;

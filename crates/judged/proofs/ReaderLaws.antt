@@ -6,13 +6,13 @@ use mathlib.Core.Path.{_≡_, refl, sym, _∙_, ap}
 use mathlib.Core.Bool.{true}
 use mathlib.Core.List.{List}
 use lib.ListN.{length, take, drop}
 use Rattle.sheet.specs.Contents.{start, size, body, contents-right, bodies}
 use Rattle.bodies.specs.Clauses.{in-fours}
 use Rattle.sheet.specs.Judgement.{places-of, Stands}
-use Rattle.sheet.specs.Runs.{place-at}
+use Rattle.judged.specs.Runs.{place-at}
 use Rattle.sheet.specs.declared.judging.Places.{Places}
 use Rattle.sheet.proofs.Contents.{next-start, last-end, body-inside, counted}
 use Rattle.sheet.proofs.Rules.{accepted-right}
 
 -- past the last body is the end
 pub place-past : (p : Places) (end k : ℕ) → 6 ≤ k → end ≡ place-at p end k

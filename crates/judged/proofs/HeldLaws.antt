@@ -29,13 +29,13 @@ use denote.Struct.Values.{Values}
 use denote.Triple.Statement.{Contract}
 use denote.Triple.Spec.{tripleOf}
 use denote.Triple.Clauses.{ensured, lasts}
-use Rattle.sheet.specs.declared.held.Sheet.{Sheet}
+use Rattle.judged.specs.declared.held.Sheet.{Sheet}
 use Rattle.sheet.specs.declared.judging.Places.{Places}
-use Rattle.sheet.proofs.held.Sheet as T
-use Rattle.sheet.proofs.held.Sheet.Laws as T′
+use Rattle.judged.proofs.held.Sheet as T
+use Rattle.judged.proofs.held.Sheet.Laws as T′
 use Rattle.sheet.proofs.judging.Places as P
 use Rattle.sheet.proofs.judging.Places.Laws as P′
-use Rattle.sheet.proofs.held.hold as hold
+use Rattle.judged.proofs.held.hold as hold
 
 -- the struct's type at a lifetime, with its laws and its row, and its slice's
 abbrev pub D : Lft → Declared

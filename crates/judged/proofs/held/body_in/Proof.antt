@@ -34,21 +34,21 @@ use denote.Triple.Table.{entered, cited}
 use denote.Triple.Walked.{says, needs, Stays, stay-none, walkOf, goes-none, Walks, ends-at, walked, walk-meets}
 use denote.Exit.{yes}
 use denote.Triple.Clauses.{ensured, lasts}
 use Rattle.sheet.specs.Contents.{body}
 use Rattle.sheet.specs.Judgement.{Stands}
-use Rattle.sheet.specs.declared.held.Sheet.{Sheet}
-use Rattle.sheet.proofs.held.Sheet.Laws as T′
+use Rattle.judged.specs.declared.held.Sheet.{Sheet}
+use Rattle.judged.proofs.held.Sheet.Laws as T′
 use Rattle.sheet.proofs.judging.Places as P
 use Rattle.sheet.proofs.judging.Places.Laws as P′
-use Rattle.sheet.proofs.HeldLaws.{D, L, Held, Slice, slice, Owned, Own, places-are, places-make, held-typed, bytes-out}
-use Rattle.sheet.proofs.held.cut as cut
-use Rattle.sheet.proofs.held.cut.Symbol as cut-def
-use Rattle.sheet.proofs.held.cut.Symbol.{name as #sheet·cut}
-use Rattle.sheet.proofs.held.cut.Met as cut-thm
-use Rattle.sheet.proofs.held.body_in.Key.{name as #sheet·body-in}
-use Rattle.sheet.proofs.held.body_in as body-in
-use Rattle.sheet.proofs.held.body_in.Statement as stated
-use Rattle.sheet.proofs.held.body_in.Code as code
+use Rattle.judged.proofs.HeldLaws.{D, L, Held, Slice, slice, Owned, Own, places-are, places-make, held-typed, bytes-out}
+use Rattle.judged.proofs.held.cut as cut
+use Rattle.judged.proofs.held.cut.Symbol as cut-def
+use Rattle.judged.proofs.held.cut.Symbol.{name as #sheet·cut}
+use Rattle.judged.proofs.held.cut.Met as cut-thm
+use Rattle.judged.proofs.held.body_in.Key.{name as #sheet·body-in}
+use Rattle.judged.proofs.held.body_in as body-in
+use Rattle.judged.proofs.held.body_in.Statement as stated
+use Rattle.judged.proofs.held.body_in.Code as code
 
 abbrev stayed : Stays (body-in.ended .signature .params) (body-in.ended .kept)
 stayed = (stay-none (λ κs. Held (κs .0)) yes, (stay-none (λ _. usize) yes, tt))
@@ -135,4 +135,4 @@ body-in-spec 𝓤 H 𝓜 𝓖 𝓡 =
     entered 𝓤 H (tripleOf 𝓤 H (𝓖 .A) body-in.signature (body-in.spec 𝓤 H (𝓖 .A) (𝓜 .mem) (𝓡 .run)))
     (tables 𝓤 H 𝓜 𝓡 code.env .C) (tables 𝓤 H 𝓜 𝓡 code.env .Λ) #sheet·body-in code.function (code.unfolded 𝓤 H 𝓜 𝓡)
     (body-in-meets 𝓤 H (𝓖 .A) (givenOf 𝓤 H 𝓜 𝓖) (𝓜 .mem) (𝓡 .run) (tablesOf 𝓤 H 𝓜 (tables 𝓤 H 𝓜 𝓡 code.env))
-    (cited 𝓤 H (Cut 𝓤 H (𝓖 .A) (𝓜 .mem) (𝓡 .run)) 𝓜 𝓡 code.env #sheet·cut cut-def.routine code.calls-sheet·held·cut (cut-thm.met 𝓤 H 𝓜 𝓖 𝓡)))
+    (cited 𝓤 H (Cut 𝓤 H (𝓖 .A) (𝓜 .mem) (𝓡 .run)) 𝓜 𝓡 code.env #sheet·cut cut-def.routine code.calls-judged·held·cut (cut-thm.met 𝓤 H 𝓜 𝓖 𝓡)))

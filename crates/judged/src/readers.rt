@@ -6,14 +6,14 @@ use crate::held::STATES;
 use crate::held::body_in;
 use crate::held::clauses_in;
 use crate::held::hold;
-use crate::judging::Places;
 use model::OwnState;
+use sheet::judging::Places;
 ghost use mathlib.Core.Path.{_≡_};
 ghost use Prim.Native.Nat.{_<_, _≤_};
 ghost use Rattle.sheet.specs.Contents.{body};
 ghost use Rattle.bodies.specs.Clauses.{in-fours};
 ghost use Rattle.sheet.specs.Judgement.{Stands};
-ghost use Rattle.sheet.specs.Runs.{RunIs};
+ghost use Rattle.judged.specs.Runs.{RunIs};
 
 // Body k of an accepted sheet.
 pub fn body_of(sheet: &[u8], p: Places, k: usize) -> &[u8]

@@ -1,9 +1,9 @@
 -- `class_count` counts the records of body 0, which an accepted sheet has few of.
 -- Assumes nothing.
-use Rattle.sheet.proofs.ReaderLaws.{classes-few}
+use Rattle.judged.proofs.ReaderLaws.{classes-few}
 use borrow.Author.Needs.{needs}
-use Rattle.sheet.proofs.readers.class_count.Statement.{statement}
-use Rattle.sheet.proofs.readers.class_count.Tie as tie
+use Rattle.judged.proofs.readers.class_count.Statement.{statement}
+use Rattle.judged.proofs.readers.class_count.Tie as tie
 
 returns : tie.Need-returns
 returns c = let a = c .before .before .args in classes-few (a .sheet .now) (a .p) (c .before .before .pre) (c .body-of .result .now) (c .body-of .ensures)
