@@ -31,6 +31,14 @@ between : (f : Field) (w above n below : ℕ) → w ≡ (above * 2 ^ f .width + 
 between f w above n below e l m =
     ap (λ (x : ℕ). x / 2 ^ f .lowest % 2 ^ f .width) e ∙ ap (λ (x : ℕ). x % 2 ^ f .width) (digits-div (above * 2 ^ f .width + n) l) ∙ digits-mod above m
 
+-- every answer has no refusal, and its kind; what is above them is u
+front : (w k u : ℕ) → w ≡ k * 256 + u * 65536 → k < 256 → (read w refused ≡ 0) × (read w kind ≡ k)
+front w k u e l = (between refused w (k + 256 * u) 0 0 (omega arith) (omega arith) (omega arith), between kind w u k 0 (omega arith) (omega arith) l)
+
+-- most have a state; what is above it is u
+state-in : (w k q u : ℕ) → w ≡ k * 256 + q * 65536 + u * 16777216 → k < 256 → q < 256 → read w state ≡ q
+state-in w k q u e l o = between state w u q (k * 256) (omega arith) (omega arith) o
+
 -- the probe: no clause
 pub back-nothing : unpacked kinds-of-probe (word kinds-of-probe (0 ∷ 0 ∷ [])) ≡ 0 ∷ 0 ∷ []
 unfolding word fields side-by-side unpacked
@@ -43,8 +51,7 @@ back-clause i r t l m n = go (word kinds-of-probe (0 ∷ 1 ∷ i ∷ r ∷ t ∷
   where
     go : (w : ℕ) → w ≡ 256 + i * 65536 + r * 4294967296 + t * 1099511627776 → unpacked kinds-of-probe w ≡ 0 ∷ 1 ∷ i ∷ r ∷ t ∷ []
     go w e =
-        let a = between refused w (1 + 256 * i + 16777216 * r + 4294967296 * t) 0 0 (omega arith) (omega arith) (omega arith) in
-        let b = between kind w (i + 65536 * r + 16777216 * t) 1 0 (omega arith) (omega arith) (omega arith) in
+        let (a, b) = front w 1 (i + 65536 * r + 16777216 * t) (omega arith) (omega arith) in
         let x = between clause w (r + 256 * t) i 256 (omega arith) (omega arith) l in
         let y = between referrer w t r (256 + i * 65536) (omega arith) (omega arith) m in
         let z = between target w 0 t (256 + i * 65536 + r * 4294967296) (omega arith) (omega arith) n in
@@ -58,9 +65,8 @@ back-reached k q m l o p f = go (word kinds-of-phase (0 ∷ k ∷ q ∷ m ∷ []
   where
     go : (w : ℕ) → w ≡ k * 256 + q * 65536 + m * 16777216 → unpacked kinds-of-phase w ≡ 0 ∷ k ∷ q ∷ m ∷ []
     go w e =
-        let a = between refused w (k + 256 * q + 65536 * m) 0 0 (omega arith) (omega arith) (omega arith) in
-        let b = between kind w (q + 256 * m) k 0 (omega arith) (omega arith) l in
-        let x = between state w m q (k * 256) (omega arith) (omega arith) o in
+        let (a, b) = front w k (q + 256 * m) (omega arith) l in
+        let x = state-in w k q m (omega arith) l o in
         let y = between moves w 0 m (k * 256 + q * 65536) (omega arith) (omega arith) p in
         given (state ∷ moves ∷ []) ((state ∷ moves ∷ []) ∷ (state ∷ moves ∷ to-do ∷ []) ∷ (state ∷ moves ∷ []) ∷ []) w k a b
         ∙ ap (λ (fs : List Field). 0 ∷ k ∷ map (read w) fs) f ∙ cc (x, y)
@@ -72,9 +78,8 @@ back-do q m c l o p = go (word kinds-of-phase (0 ∷ 2 ∷ q ∷ m ∷ c ∷ [])
   where
     go : (w : ℕ) → w ≡ 512 + q * 65536 + m * 16777216 + c * 4294967296 → unpacked kinds-of-phase w ≡ 0 ∷ 2 ∷ q ∷ m ∷ c ∷ []
     go w e =
-        let a = between refused w (2 + 256 * q + 65536 * m + 16777216 * c) 0 0 (omega arith) (omega arith) (omega arith) in
-        let b = between kind w (q + 256 * m + 65536 * c) 2 0 (omega arith) (omega arith) (omega arith) in
-        let x = between state w (m + 256 * c) q 512 (omega arith) (omega arith) l in
+        let (a, b) = front w 2 (q + 256 * m + 65536 * c) (omega arith) (omega arith) in
+        let x = state-in w 2 q (m + 256 * c) (omega arith) (omega arith) l in
         let y = between moves w c m (512 + q * 65536) (omega arith) (omega arith) o in
         let z = between to-do w 0 c (512 + q * 65536 + m * 16777216) (omega arith) (omega arith) p in
         given (state ∷ moves ∷ []) ((state ∷ moves ∷ []) ∷ (state ∷ moves ∷ to-do ∷ []) ∷ (state ∷ moves ∷ []) ∷ []) w 2 a b ∙ cc (x, y, z)
@@ -87,9 +92,8 @@ back-command k q n l o p f = go (word kinds-of-command (0 ∷ k ∷ q ∷ n ∷ 
   where
     go : (w : ℕ) → w ≡ k * 256 + q * 65536 + n * 4294967296 → unpacked kinds-of-command w ≡ 0 ∷ k ∷ q ∷ n ∷ []
     go w e =
-        let a = between refused w (k + 256 * q + 16777216 * n) 0 0 (omega arith) (omega arith) (omega arith) in
-        let b = between kind w (q + 65536 * n) k 0 (omega arith) (omega arith) l in
-        let x = between state w (256 * n) q (k * 256) (omega arith) (omega arith) o in
+        let (a, b) = front w k (q + 65536 * n) (omega arith) l in
+        let x = state-in w k q (256 * n) (omega arith) l o in
         let y = between bytes-written w 0 n (k * 256 + q * 65536) (omega arith) (omega arith) p in
         given (state ∷ bytes-written ∷ []) ((state ∷ bytes-written ∷ []) ∷ []) w k a b ∙ ap (λ (fs : List Field). 0 ∷ k ∷ map (read w) fs) f ∙ cc (x, y)
 
@@ -100,8 +104,7 @@ back-free m l = go (word kinds-of-loop (0 ∷ 0 ∷ m ∷ [])) (omega arith)
   where
     go : (w : ℕ) → w ≡ m * 16777216 → unpacked kinds-of-loop w ≡ 0 ∷ 0 ∷ m ∷ []
     go w e =
-        let a = between refused w (65536 * m) 0 0 (omega arith) (omega arith) (omega arith) in
-        let b = between kind w (256 * m) 0 0 (omega arith) (omega arith) (omega arith) in
+        let (a, b) = front w 0 (256 * m) (omega arith) (omega arith) in
         let x = between moves w 0 m 0 (omega arith) (omega arith) l in
         given (moves ∷ []) ((configuration ∷ state ∷ []) ∷ []) w 0 a b ∙ cc (x)
 
@@ -111,8 +114,7 @@ back-loop k q l o = go (word kinds-of-loop (0 ∷ 1 ∷ k ∷ q ∷ [])) (omega 
   where
     go : (w : ℕ) → w ≡ 256 + q * 65536 + k * 4294967296 → unpacked kinds-of-loop w ≡ 0 ∷ 1 ∷ k ∷ q ∷ []
     go w e =
-        let a = between refused w (1 + 256 * q + 16777216 * k) 0 0 (omega arith) (omega arith) (omega arith) in
-        let b = between kind w (q + 65536 * k) 1 0 (omega arith) (omega arith) (omega arith) in
+        let (a, b) = front w 1 (q + 65536 * k) (omega arith) (omega arith) in
         let x = between configuration w 0 k (256 + q * 65536) (omega arith) (omega arith) l in
-        let y = between state w (256 * k) q 256 (omega arith) (omega arith) o in
+        let y = state-in w 1 q (256 * k) (omega arith) (omega arith) o in
         given (moves ∷ []) ((configuration ∷ state ∷ []) ∷ []) w 1 a b ∙ cc (x, y)

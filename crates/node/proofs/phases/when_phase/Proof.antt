@@ -15,14 +15,14 @@ abbrev μ-loop : tie.MeasureT-loop
 loop-holds : tie.Need-loop-holds Inv-loop μ-loop
 loop-holds c = walked-start _ _ _ _ (c .state-count .ensures .0)
 
+returns-2 : tie.Need-returns-2 Inv-loop μ-loop
+returns-2 c = walk-loops _ _ _ _ _ _ (c .before .loop .inv) (c .loop-test .left)
+
 returns : tie.Need-returns Inv-loop μ-loop
 returns c = let b = c .before .before .before .before in walk-settles _ _ _ _ _ _ (b .before .loop .inv) (b .loop-test .taken) _ (c .before .before .before .turn-from .ensures) _ (c .before .taken .given .1)
 
 loop-again : tie.Need-loop-again Inv-loop μ-loop
 loop-again c = let b = c .before .before .before .before in walked-more _ _ _ _ _ _ (b .before .loop .inv) (b .loop-test .taken) _ (c .before .before .before .turn-from .ensures) _ (c .before .taken2 .given .1)
-
-returns-2 : tie.Need-returns-2 Inv-loop μ-loop
-returns-2 c = walk-loops _ _ _ _ _ _ (c .before .loop .inv) (c .loop-test .left)
 
 pub when-phase-spec : {M : Type 1} → statement M
 when-phase-spec =
