@@ -16,20 +16,20 @@ use Rattle.model.proofs.Words.{passed, not-passed}
 use Rattle.sheet.specs.Contents.{bodies, body}
 use Rattle.bodies.specs.Clauses.{in-fours}
 use Rattle.sheet.specs.Reading.{class-of}
-use Rattle.sheet.specs.ChildList.{children-of, list-right}
-use Rattle.sheet.specs.Judgement.{judged-numbers, judgement, Stands}
+use Rattle.children.specs.ChildList.{children-of, list-right}
+use Rattle.sheet.specs.Verdict.{verdict-numbers, verdict, Stands}
 use Rattle.sheet.specs.declared.judging.Places.{Places}
-use Rattle.sheet.specs.declared.judging.Judged.{Judged}
-use Rattle.sheet.specs.declared.judging.Judged.the-variants.{Accepted as AcceptedAt, Refused}
+use Rattle.sheet.specs.declared.judging.Verdict.{Verdict}
+use Rattle.sheet.specs.declared.judging.Verdict.the-variants.{Accepted as AcceptedAt, Refused}
 use Rattle.sheet.proofs.VerdictLaws.{told-accepted, told-refused}
 use Rattle.sheet.proofs.Reading.{own-states-in}
-use Rattle.judged.proofs.ReaderLaws.{classes-few}
-use Rattle.node.specs.Lists.{pairs-right}
-use Rattle.node.specs.Sets.{Shows}
-use Rattle.node.specs.Probing.{Crewed}
-use Rattle.node.proofs.ListLaws.{pairs-list, list-crewed}
-use Rattle.bargewicker.specs.Questions.{Reply, refuse, give, probed, phased, judged, placed, reply, probe-in, phase-from}
-use Rattle.bargewicker.specs.Numbers.{numbers, values, probed-numbers, phase-numbers}
+use Rattle.accepted.proofs.ReaderLaws.{classes-few}
+use Rattle.children.specs.Lists.{pairs-right}
+use Rattle.children.specs.NameSets.{Shows}
+use Rattle.children.specs.NameSets.{Crewed}
+use Rattle.children.proofs.ListLaws.{pairs-list, list-crewed}
+use Rattle.bargewicker.specs.Questions.{Reply, refuse, give, probed, phased, on-sheet, placed, reply, probe-in, phase-from}
+use Rattle.bargewicker.specs.Numbers.{numbers, values, probed-values, phase-values}
 use Rattle.bargewicker.specs.Answers.{placing-number}
 use Rattle.bargewicker.specs.declared.Placing.{Placing}
 use Rattle.bargewicker.specs.declared.Placing.the-variants.{Fits, Refused as NotPlaced}
@@ -37,12 +37,12 @@ use Rattle.bargewicker.specs.Placing.{placed-refusal}
 use Rattle.bargewicker.proofs.FaceLaws.{refused-first, not-placed, is-placed, placed-list}
 
 -- the judge accepted: the sheet stands
-pub stands : (b : List ℕ) (r : Judged) → judged-numbers r ≡ judgement b → (p : Places) → r ≡ AcceptedAt p → Stands b p
+pub stands : (b : List ℕ) (r : Verdict) → verdict-numbers r ≡ verdict b → (p : Places) → r ≡ AcceptedAt p → Stands b p
 stands b r e p f = let (a, w) = told-accepted b r e p f in record { accepted = a; places = w }
 
 -- the judge refused: so does the question, whatever it is
-pub refused-too : (b : List ℕ) (r : Judged) → judged-numbers r ≡ judgement b → (x : Refusal) → r ≡ Refused x → (rest : Class → Reply)
-    → judged b rest ≡ refuse (number-of x)
+pub refused-too : (b : List ℕ) (r : Verdict) → verdict-numbers r ≡ verdict b → (x : Refusal) → r ≡ Refused x → (rest : Class → Reply)
+    → on-sheet b rest ≡ refuse (number-of x)
 refused-too b r e x f rest = let (n, l, u) = told-refused b r e x f in refused-first b rest (number-of x) n l
 
 module _ (b : List ℕ) (p : Places) (s : Stands b p) where
@@ -96,10 +96,10 @@ module _ (b : List ℕ) (p : Places) (s : Stands b p) (l : List ℕ) (q : ℕ) (
     crew sets n h = list-crewed b (s .accepted) l right-list sets n h
 
     -- the probe's and the when phase's answers
-    pub probe-given : (x : Probed) → probe (class-of b) (children-of l) q ≡ x → numbers (reply (probe-in b l q)) ≡ 0 ∷ probed-numbers x
+    pub probe-given : (x : Probed) → probe (class-of b) (children-of l) q ≡ x → numbers (reply (probe-in b l q)) ≡ 0 ∷ probed-values x
     unfolding reply numbers values
-    probe-given x h = ap numbers (fitting (λ c. give (probed (probe c (children-of l) q)) [])) ∙ ap (λ (y : Probed). 0 ∷ probed-numbers y) h
+    probe-given x h = ap numbers (fitting (λ c. give (probed (probe c (children-of l) q)) [])) ∙ ap (λ (y : Probed). 0 ∷ probed-values y) h
 
-    pub phase-given : (x : Phase) → phase (class-of b) (children-of l) q ≡ x → numbers (reply (phase-from b l q)) ≡ 0 ∷ phase-numbers x
+    pub phase-given : (x : Phase) → phase (class-of b) (children-of l) q ≡ x → numbers (reply (phase-from b l q)) ≡ 0 ∷ phase-values x
     unfolding reply numbers values
-    phase-given x h = ap numbers (fitting (λ c. give (phased (phase c (children-of l) q)) [])) ∙ ap (λ (y : Phase). 0 ∷ phase-numbers y) h
+    phase-given x h = ap numbers (fitting (λ c. give (phased (phase c (children-of l) q)) [])) ∙ ap (λ (y : Phase). 0 ∷ phase-values y) h

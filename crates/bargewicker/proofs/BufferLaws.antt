@@ -10,11 +10,12 @@ use Rattle.model.specs.Tree.{Class}
 use Rattle.model.specs.Commands.{Sent, handled, ignored, command}
 use Rattle.sheet.specs.Rules.{Accepted}
 use Rattle.sheet.specs.Reading.{class-of}
-use Rattle.sheet.specs.ChildList.{children-of, pairs, sent-bytes, written}
+use Rattle.children.specs.ChildList.{children-of, pairs, sent-bytes}
+use Rattle.model.specs.Replies.{written}
 use Rattle.configurations.specs.Configurations.{name-count, list-of}
 use Rattle.configurations.specs.LoopAnswer.{loop, free, loop-answer}
 use Rattle.bargewicker.specs.Questions.{Question, Reply, refuse, give, commanded, looped, command-in, loop-with, placed, reply, reply-command, reply-loop, lent, buffer-after, present-right, bytes-of-handling, bytes-of-loops}
-use Rattle.bargewicker.specs.Numbers.{numbers, values, handling-numbers, Answered}
+use Rattle.bargewicker.specs.Numbers.{numbers, values, handling-values, Answered}
 use Rattle.bargewicker.proofs.FaceLaws.{asked, command-over, command-short, command-given, loop-bit, loop-many, loop-short, loop-given}
 
 -- a question whose reply is known is answered by its numbers and its buffer
@@ -38,7 +39,7 @@ module _ (b l : List ℕ) (q m : ℕ) (out : List ℕ) (fits : (rest : Class →
   module _ (h : m ≤ 63) where
     pub answer-ignored : (s : ℕ) → command (class-of b) (children-of l) q m ≡ ignored s → (after : List ℕ) → after ≡ out
         → Answered (command-in b l q m out) (0 ∷ 0 ∷ s ∷ 0 ∷ []) after
-    unfolding numbers values handling-numbers bytes-of-handling
+    unfolding numbers values handling-values bytes-of-handling
     answer-ignored s e after g =
         answered (command-in b l q m out) (give (commanded (ignored s)) [])
         (placed-command ∙ command-given (class-of b) l q m out h (ignored s) e (omega arith))
@@ -47,7 +48,7 @@ module _ (b l : List ℕ) (q m : ℕ) (out : List ℕ) (fits : (rest : Class →
     module _ (sent : List Sent) (s : ℕ) (e : command (class-of b) (children-of l) q m ≡ handled sent s) where
       pub answer-handled : (n : ℕ) → n ≡ length (sent-bytes sent) → n ≤ length out → (after : List ℕ) → after ≡ sent-bytes sent ++ drop n out
           → Answered (command-in b l q m out) (0 ∷ 1 ∷ s ∷ n ∷ []) after
-      unfolding numbers values handling-numbers bytes-of-handling
+      unfolding numbers values handling-values bytes-of-handling
       answer-handled n f r after g =
           answered (command-in b l q m out) (give (commanded (handled sent s)) (sent-bytes sent))
           (placed-command ∙ command-given (class-of b) l q m out h (handled sent s) e (let k : length (sent-bytes sent) ≤ length out = omega arith in k))

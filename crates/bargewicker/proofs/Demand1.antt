@@ -15,8 +15,8 @@ use Rattle.bargewicker.specs.Numbers.{numbers, values}
 use Rattle.bargewicker.specs.Promises.{AnswerTo, refusing, numbers-of, Promised}
 use Rattle.bargewicker.specs.Table.{first-failed, table}
 use Rattle.bargewicker.specs.Demands.{Demand1}
-use Rattle.bargewicker.specs.declared.Judgement.{Judgement}
-use Rattle.bargewicker.specs.declared.Judgement.the-variants as J
+use Rattle.bargewicker.specs.declared.JudgeAnswer.{JudgeAnswer}
+use Rattle.bargewicker.specs.declared.JudgeAnswer.the-variants as J
 use Rattle.bargewicker.specs.declared.ProbeAnswer.the-variants as P
 use Rattle.bargewicker.specs.declared.PhaseAnswer.the-variants as W
 use Rattle.bargewicker.specs.declared.CommandAnswer.the-variants as C
@@ -88,7 +88,7 @@ module _ (q : Question) (r : AnswerTo q) (final : List ℕ) (h : Promised q r fi
       }
 
 -- the judge accepts exactly the sheets that get no refusal
-pub accepted-exactly : (b : List ℕ) (r : Judgement) (final : List ℕ) → Promised (judge b) r final → (r ≡ J.Accepted) ↔ Accepted b
+pub accepted-exactly : (b : List ℕ) (r : JudgeAnswer) (final : List ℕ) → Promised (judge b) r final → (r ≡ J.Accepted) ↔ Accepted b
 unfolding reply numbers values table
 accepted-exactly b r final h = (
   (λ e. sheet-failed b ∙ demand-1 (judge b) r final h .answered .0 (λ x f. absurd (clash (cc (sym e ∙ f))))),

@@ -16,20 +16,21 @@ use Rattle.model.specs.Sound.{Sound, ReferrerRight}
 use Rattle.model.specs.declared.OwnState.{OwnState}
 use Rattle.model.specs.declared.Refusal.the-variants.{Room}
 use Rattle.model.proofs.Words.{clash, true-not-false, lt-or-le}
-use Rattle.model.proofs.Phase.{getD-mem, probe-found, probe-nothing, phase-settled, phase-loops, loops-never}
-use Rattle.bodies.specs.Referrers.{reads-as}
-use Rattle.bodies.specs.declared.clauses.Referrer.{Referrer}
-use Rattle.bodies.specs.declared.clauses.Referrer.the-variants.{MoveTo, Do, Stay}
-use Rattle.sheet.specs.Judgement.{Stands, places-of}
+use Rattle.model.proofs.NodeLaws.{getD-mem, probe-found, probe-nothing, phase-settled, phase-loops, loops-never}
+use Rattle.model.specs.Answers.{referrer-as}
+use Rattle.model.specs.declared.Referrer.{Referrer}
+use Rattle.model.specs.declared.Referrer.the-variants.{MoveTo, Do, Stay}
+use Rattle.sheet.specs.Verdict.{Stands, places-of}
 use Rattle.sheet.specs.Reading.{class-of}
-use Rattle.sheet.specs.ChildList.{children-of, sent-bytes, written}
+use Rattle.children.specs.ChildList.{children-of, sent-bytes}
+use Rattle.model.specs.Replies.{written}
 use Rattle.sheet.proofs.Sound.{sound}
-use Rattle.node.specs.Probing.{ending-as}
-use Rattle.node.specs.declared.probing.Ending.{Ending}
-use Rattle.node.specs.declared.probing.Ending.the-variants.{ByNone, ByStay, ByDo}
+use Rattle.model.specs.Answers.{ending-as}
+use Rattle.model.specs.declared.Ending.{Ending}
+use Rattle.model.specs.declared.Ending.the-variants.{ByNone, ByStay, ByDo}
 use Rattle.bargewicker.specs.Questions.{Reply, probe-in, phase-from, command-in, placed}
-use Rattle.bargewicker.specs.Numbers.{referrer-numbers, probed-numbers, settled-numbers, phase-numbers, Answered}
-use Rattle.bargewicker.specs.Answers.{probe-numbers, phase-answer-numbers, command-numbers}
+use Rattle.bargewicker.specs.Numbers.{referrer-values, probed-values, settled-values, phase-values, Answered}
+use Rattle.bargewicker.specs.Answers.{probe-numbers, phase-numbers, command-numbers}
 use Rattle.bargewicker.specs.Placing.{placed-refusal}
 use Rattle.bargewicker.specs.Promises.{Promised}
 use Rattle.bargewicker.specs.Demands.{Asked, no-clause, clause, First, NoneTrue, ProbeRight, Settles, PhaseRight, CommandRight}
@@ -55,7 +56,7 @@ as-read (move-to t) = MoveTo (record { 0 = t })
 as-read (run a) = Do a
 as-read stay = Stay
 
-reads-back : (x : TreeReferrer) → reads-as (as-read x) ≡ x
+reads-back : (x : TreeReferrer) → referrer-as (as-read x) ≡ x
 unfolding as-read
 reads-back (move-to t) = refl
 reads-back (run a) = refl
@@ -148,28 +149,28 @@ module _ (b l : List ℕ) (q : ℕ) (a : Asked b l q) where
   unfolding as-read
   probe-right r final h = go (probe (class-of b) (children-of l) q) refl
     where
-      told : (s : ProbeAnswer) (p : Probed) → probe (class-of b) (children-of l) q ≡ p → probe-numbers s ≡ 0 ∷ probed-numbers p
+      told : (s : ProbeAnswer) (p : Probed) → probe (class-of b) (children-of l) q ≡ p → probe-numbers s ≡ 0 ∷ probed-values p
           → ProbeRight (class-of b) (children-of l) q s → ProbeRight (class-of b) (children-of l) q r
       told s p e f = subst (ProbeRight (class-of b) (children-of l) q) (sym (unique .probing b l q r s (h .0) (f ∙ sym (probe-given b (places-of b) stands l q Fits not-refused refl p e))))
 
       go : (p : Probed) → probe (class-of b) (children-of l) q ≡ p → ProbeRight (class-of b) (children-of l) q r
       go nothing e = told P.Nothing nothing e refl (none-found (class-of b) (children-of l) q e)
       go (found i x) e =
-          told (P.Clause i (as-read x)) (found i x) e (ap (λ (y : TreeReferrer). 0 ∷ 1 ∷ i ∷ referrer-numbers y) (reads-back x))
+          told (P.Clause i (as-read x)) (found i x) e (ap (λ (y : TreeReferrer). 0 ∷ 1 ∷ i ∷ referrer-values y) (reads-back x))
           (subst (First (class-of b) (children-of l) q i) (sym (reads-back x)) (first-found (class-of b) (children-of l) q i x e))
 
   pub phase-right : (r : PhaseAnswer) (final : List ℕ) → Promised (phase-from b l q) r final → PhaseRight (class-of b) (children-of l) q r
   unfolding own
   phase-right r final h = go (phase (class-of b) (children-of l) q) refl
     where
-      told : (s : PhaseAnswer) (p : Phase) → phase (class-of b) (children-of l) q ≡ p → phase-answer-numbers s ≡ 0 ∷ phase-numbers p
+      told : (s : PhaseAnswer) (p : Phase) → phase (class-of b) (children-of l) q ≡ p → phase-numbers s ≡ 0 ∷ phase-values p
           → PhaseRight (class-of b) (children-of l) q s → PhaseRight (class-of b) (children-of l) q r
       told s p e f = subst (PhaseRight (class-of b) (children-of l) q) (sym (unique .phasing b l q r s (h .0) (f ∙ sym (phase-given b (places-of b) stands l q Fits not-refused refl p e))))
 
       go : (p : Phase) → phase (class-of b) (children-of l) q ≡ p → PhaseRight (class-of b) (children-of l) q r
       go (settled d s m) e =
           let (u, E, t) = phase-settled (class-of b) (children-of l) q d s m e in
-          told (W.Settled (as-ending d) (own s) m) (settled d s m) e (ap (λ (x : TreeEnding). 0 ∷ settled-numbers x s m) (ends-back d))
+          told (W.Settled (as-ending d) (own s) m) (settled d s m) e (ap (λ (x : TreeEnding). 0 ∷ settled-values x s m) (ends-back d))
           (E, stops-so (class-of b) (children-of l) (sound b (a .bytes) (a .accepted)) s d t)
       go (loops s m) e =
           let (u, t) = phase-loops (class-of b) (children-of l) q s m e in

@@ -10,7 +10,8 @@ use Rattle.model.proofs.Words.{clash}
 use Rattle.bodies.specs.Bytes.{Bytes}
 use Rattle.sheet.specs.Rules.{Accepted}
 use Rattle.sheet.specs.Reading.{class-of}
-use Rattle.sheet.specs.ChildList.{pairs, written}
+use Rattle.children.specs.ChildList.{pairs}
+use Rattle.model.specs.Replies.{written}
 use Rattle.sheet.proofs.Sound.{sound}
 use Rattle.configurations.specs.Configurations.{name-count, list-of}
 use Rattle.configurations.specs.LoopAnswer.{Loops, loop, free, loop-answer}
@@ -18,7 +19,7 @@ use Rattle.configurations.specs.Demand.{Demanded}
 use Rattle.configurations.proofs.Demand.{demanded}
 use Rattle.bargewicker.specs.Questions.{loop-with, present-right}
 use Rattle.bargewicker.specs.Numbers.{Answered}
-use Rattle.bargewicker.specs.Answers.{loop-answer-numbers}
+use Rattle.bargewicker.specs.Answers.{loop-numbers}
 use Rattle.bargewicker.specs.Demands.{LoopsRight, Demand3}
 use Rattle.bargewicker.specs.declared.LoopAnswer.{LoopAnswer}
 use Rattle.bargewicker.specs.declared.LoopAnswer.the-variants as L
@@ -27,7 +28,7 @@ use Rattle.bargewicker.proofs.Unique.{unique}
 
 module _ (b : List ℕ) (present : ℕ) (out : List ℕ) (bytes : Bytes b) (accepted : Accepted b) (right : present-right (class-of b) present ≡ true)
     (few : name-count (class-of b) present ≤ 20) (room : 2 * name-count (class-of b) present ≤ length out)
-    (r : LoopAnswer) (final : List ℕ) (h : Answered (loop-with b present out) (loop-answer-numbers r) final) where
+    (r : LoopAnswer) (final : List ℕ) (h : Answered (loop-with b present out) (loop-numbers r) final) where
   pub demand-3 : Demand3 (class-of b) present out final r
   demand-3 = go (loop-answer (class-of b) present) refl (demanded (class-of b) (sound b bytes accepted) present)
     where

@@ -14,19 +14,19 @@ use Rattle.model.specs.Node.{own-states}
 use Rattle.model.specs.Commands.{Handling, command}
 use Rattle.sheet.specs.Rules.{refusal, Accepted}
 use Rattle.sheet.specs.Reading.{class-of}
-use Rattle.sheet.specs.ChildList.{children-of, list-right}
+use Rattle.children.specs.ChildList.{children-of, list-right}
 use Rattle.configurations.specs.Configurations.{name-count}
 use Rattle.configurations.specs.LoopAnswer.{Loops, loop-answer}
-use Rattle.bargewicker.specs.Questions.{Reply, refuse, give, commanded, looped, judged, placed, reply-command, reply-loop, present-right, bytes-of-handling, bytes-of-loops}
+use Rattle.bargewicker.specs.Questions.{Reply, refuse, give, commanded, looped, on-sheet, placed, reply-command, reply-loop, present-right, bytes-of-handling, bytes-of-loops}
 use Rattle.bargewicker.specs.Placing.{placed-refusal}
 
 -- a sheet that is refused gets its number, whatever is asked; one that is accepted is asked
-pub refused-first : (b : List ℕ) (rest : Class → Reply) (n : ℕ) → n ≡ refusal b → 1 ≤ n → judged b rest ≡ refuse n
-unfolding judged
+pub refused-first : (b : List ℕ) (rest : Class → Reply) (n : ℕ) → n ≡ refusal b → 1 ≤ n → on-sheet b rest ≡ refuse n
+unfolding on-sheet
 refused-first b rest n e l = rw (← e, ne-eqb n 0 (λ z. let w : n ≡ 0 = z in omega arith))
 
-pub asked : (b : List ℕ) (rest : Class → Reply) → Accepted b → judged b rest ≡ rest (class-of b)
-unfolding judged
+pub asked : (b : List ℕ) (rest : Class → Reply) → Accepted b → on-sheet b rest ≡ rest (class-of b)
+unfolding on-sheet
 asked b rest a = rw (eq-eqb (refusal b) 0 a)
 
 -- the child list and the asked state: 10, 11, or neither

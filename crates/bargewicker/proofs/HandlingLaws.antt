@@ -7,7 +7,7 @@ use Rattle.model.specs.Tree.{Class}
 use Rattle.model.specs.Commands.{command}
 use Rattle.model.specs.declared.OwnState.{OwnState}
 use Rattle.sheet.specs.Reading.{class-of}
-use Rattle.sheet.specs.ChildList.{children-of}
+use Rattle.children.specs.ChildList.{children-of}
 use Rattle.commands.specs.Commands.{HandlesAs}
 use Rattle.commands.specs.declared.Handling.{Handling}
 use Rattle.commands.specs.declared.Handling.the-variants.{Ignored, Handled, Short}

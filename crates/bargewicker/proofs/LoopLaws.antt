@@ -13,12 +13,13 @@ use Rattle.model.proofs.Words.{passed, not-passed}
 use Rattle.sheet.specs.Contents.{bodies, body}
 use Rattle.bodies.specs.Clauses.{in-fours}
 use Rattle.sheet.specs.Reading.{class-of}
-use Rattle.sheet.specs.ChildList.{pairs, written}
-use Rattle.sheet.specs.Judgement.{Stands}
+use Rattle.children.specs.ChildList.{pairs}
+use Rattle.model.specs.Replies.{written}
+use Rattle.sheet.specs.Verdict.{Stands}
 use Rattle.sheet.specs.declared.judging.Places.{Places}
 use Rattle.sheet.proofs.Contents.{counted}
 use Rattle.sheet.proofs.Reading.{child-classes-in}
-use Rattle.judged.proofs.ReaderLaws.{stands-right}
+use Rattle.accepted.proofs.ReaderLaws.{stands-right}
 use Rattle.configurations.specs.Configurations.{chosen, name-count, list-of}
 use Rattle.loops.specs.Cells.{CellsAre, cells-of}
 use Rattle.loops.specs.Search.{Held, Searched}

@@ -9,8 +9,8 @@ use lib.Dec.{eqb, leb, ltb}
 use borrow.Author.Tests.{leb-true, leb-false, le-ltb, lt-ltb, ltb-true}
 use Rattle.model.specs.Words.{has, each}
 use Rattle.model.proofs.Words.{true-not-false, or-either, each-elim, each-so-far, each-broken, each-all}
-use Rattle.bodies.proofs.Bits.{bit-below as width}
-use Rattle.node.proofs.CrewLaws.{shifted}
+use Rattle.model.proofs.Bits.{bit-below as width}
+use Rattle.children.proofs.CrewLaws.{shifted}
 use Rattle.bargewicker.specs.Questions.{bits-below}
 
 -- bit i is not set, or below n

@@ -15,10 +15,10 @@ use Rattle.model.specs.Commands.{Sent, Handling, handled, ignored, command}
 use Rattle.model.proofs.Words.{and-left, and-right}
 use Rattle.sheet.specs.Rules.{refusal, refusal-in}
 use Rattle.sheet.specs.Reading.{class-of}
-use Rattle.sheet.specs.ChildList.{children-of, list-right, sent-bytes}
+use Rattle.children.specs.ChildList.{children-of, list-right, sent-bytes}
 use Rattle.configurations.specs.Configurations.{name-count}
 use Rattle.configurations.specs.LoopAnswer.{loop-answer}
-use Rattle.bargewicker.specs.Questions.{Question, judge, probe-in, phase-from, command-in, loop-with, Answer, commanded, looped, Reply, refuse, give, check, judged, placed, reply, reply-command, reply-loop, present-right, bytes-of-handling, bytes-of-loops}
+use Rattle.bargewicker.specs.Questions.{Question, judge, probe-in, phase-from, command-in, loop-with, Answer, commanded, looped, Reply, refuse, give, check, on-sheet, placed, reply, reply-command, reply-loop, present-right, bytes-of-handling, bytes-of-loops}
 use Rattle.bargewicker.specs.Table.{Check, rule, first-failed, body-checks, sheet-checks, place-checks, sent-by, command-checks, loop-checks, table}
 
 -- the number of a refusal, 0 of an answer
@@ -55,10 +55,10 @@ unfolding sheet-checks body-checks every
 sheet-numbered b = refl
 
 -- a sheet's checks, then those of what is asked of it
-judged-failed : (b : List ℕ) (rest : Class → Reply) (more : List Check) → refused-number (rest (class-of b)) ≡ first-failed more
-    → refused-number (judged b rest) ≡ first-failed (sheet-checks b ++ more)
-unfolding judged
-judged-failed b rest more h =
+sheet-failed : (b : List ℕ) (rest : Class → Reply) (more : List Check) → refused-number (rest (class-of b)) ≡ first-failed more
+    → refused-number (on-sheet b rest) ≡ first-failed (sheet-checks b ++ more)
+unfolding on-sheet
+sheet-failed b rest more h =
     go (eqb (refusal b) 0) ∙ ap (λ (n : ℕ). choose (eqb n 0) (λ _. first-failed more) (λ _. n)) (sheet-failed b) ∙ sym (first-of-both (sheet-checks b) more (sheet-numbered b))
   where
     go : (t : Bool) → refused-number (check t (refusal b) (λ _. rest (class-of b))) ≡ choose t (λ _. first-failed more) (λ _. refusal b)
@@ -68,7 +68,7 @@ judged-failed b rest more h =
 placed-failed : (b l : List ℕ) (q : ℕ) (rest : Class → Reply) (more : List Check) → refused-number (rest (class-of b)) ≡ first-failed more
     → refused-number (placed b l q rest) ≡ first-failed (sheet-checks b ++ (place-checks (class-of b) l q ++ more))
 unfolding placed place-checks first-failed
-placed-failed b l q rest more h = judged-failed b _ _ (go (list-right (class-of b) l) (ltb q (own-states (class-of b))))
+placed-failed b l q rest more h = sheet-failed b _ _ (go (list-right (class-of b) l) (ltb q (own-states (class-of b))))
   where
     go : (t u : Bool) → refused-number (check t 10 (λ _. check u 11 (λ _. rest (class-of b)))) ≡ first-failed (rule 10 t ∷ rule 11 u ∷ more)
     go true true = h
@@ -113,8 +113,8 @@ loop-failed c present out =
 -- whatever is asked
 pub failed : (q : Question) → refused-number (reply q) ≡ first-failed (table q)
 unfolding reply table sheet-checks body-checks place-checks first-failed
-failed (judge b) = judged-failed b _ [] refl
+failed (judge b) = sheet-failed b _ [] refl
 failed (probe-in b l q) = placed-failed b l q _ [] refl
 failed (phase-from b l q) = placed-failed b l q _ [] refl
 failed (command-in b l q m out) = placed-failed b l q _ (command-checks (class-of b) l q m out) (command-failed (class-of b) l q m out)
-failed (loop-with b present out) = judged-failed b _ (loop-checks (class-of b) present out) (loop-failed (class-of b) present out)
+failed (loop-with b present out) = sheet-failed b _ (loop-checks (class-of b) present out) (loop-failed (class-of b) present out)

@@ -8,18 +8,18 @@ use Rattle.model.specs.Refusals.{number-of}
 use Rattle.model.specs.declared.Refusal.{Refusal}
 use Rattle.model.specs.declared.OwnState.{OwnState}
 use Rattle.model.proofs.Words.{clash}
-use Rattle.model.proofs.Refusals.{same-number}
-use Rattle.bodies.specs.Referrers.{reads-as}
-use Rattle.bodies.specs.declared.clauses.Referrer.{Referrer}
-use Rattle.bodies.specs.declared.clauses.Referrer.the-variants.{MoveTo, Do, Stay}
-use Rattle.node.specs.Probing.{ending-as}
-use Rattle.node.specs.declared.probing.Ending.{Ending}
-use Rattle.node.specs.declared.probing.Ending.the-variants.{ByNone, ByStay, ByDo}
-use Rattle.bargewicker.specs.Numbers.{referrer-numbers, settled-numbers}
-use Rattle.bargewicker.specs.Answers.{judgement-numbers, probe-numbers, phase-answer-numbers, command-numbers, loop-answer-numbers}
+use Rattle.model.proofs.RefusalLaws.{same-number}
+use Rattle.model.specs.Answers.{referrer-as}
+use Rattle.model.specs.declared.Referrer.{Referrer}
+use Rattle.model.specs.declared.Referrer.the-variants.{MoveTo, Do, Stay}
+use Rattle.model.specs.Answers.{ending-as}
+use Rattle.model.specs.declared.Ending.{Ending}
+use Rattle.model.specs.declared.Ending.the-variants.{ByNone, ByStay, ByDo}
+use Rattle.bargewicker.specs.Numbers.{referrer-values, settled-values}
+use Rattle.bargewicker.specs.Answers.{judge-numbers, probe-numbers, phase-numbers, command-numbers, loop-numbers}
 use Rattle.bargewicker.specs.Unique.{Unique}
-use Rattle.bargewicker.specs.declared.Judgement.{Judgement}
-use Rattle.bargewicker.specs.declared.Judgement.the-variants as J
+use Rattle.bargewicker.specs.declared.JudgeAnswer.{JudgeAnswer}
+use Rattle.bargewicker.specs.declared.JudgeAnswer.the-variants as J
 use Rattle.bargewicker.specs.declared.ProbeAnswer.{ProbeAnswer}
 use Rattle.bargewicker.specs.declared.ProbeAnswer.the-variants as P
 use Rattle.bargewicker.specs.declared.PhaseAnswer.{PhaseAnswer}
@@ -38,7 +38,7 @@ not-zero x e = let n = numbered x in omega arith
 same-state : (s t : OwnState) → s .0 ≡ t .0 → s ≡ t
 same-state s t e = λ i. record { 0 = e i }
 
-same-referrer : (r s : Referrer) → referrer-numbers (reads-as r) ≡ referrer-numbers (reads-as s) → r ≡ s
+same-referrer : (r s : Referrer) → referrer-values (referrer-as r) ≡ referrer-values (referrer-as s) → r ≡ s
 same-referrer (MoveTo t) (MoveTo u) e = ap MoveTo (same-state t u (cc))
 same-referrer (MoveTo t) (Do b) e = absurd (clash (cc))
 same-referrer (MoveTo t) Stay e = absurd (let z : _≡_ {A = ℕ} 0 2 = cc in omega arith)
@@ -49,11 +49,11 @@ same-referrer Stay (MoveTo u) e = absurd (let z : _≡_ {A = ℕ} 0 2 = cc in om
 same-referrer Stay (Do b) e = absurd (let z : _≡_ {A = ℕ} 1 2 = cc in omega arith)
 same-referrer Stay Stay e = refl
 
-same-judgement : (r s : Judgement) → judgement-numbers r ≡ judgement-numbers s → r ≡ s
-same-judgement J.Accepted J.Accepted e = refl
-same-judgement J.Accepted (J.Refused y) e = absurd (not-zero y (cc))
-same-judgement (J.Refused x) J.Accepted e = absurd (not-zero x (cc))
-same-judgement (J.Refused x) (J.Refused y) e = ap J.Refused (same-number x y (cc))
+same-judge : (r s : JudgeAnswer) → judge-numbers r ≡ judge-numbers s → r ≡ s
+same-judge J.Accepted J.Accepted e = refl
+same-judge J.Accepted (J.Refused y) e = absurd (not-zero y (cc))
+same-judge (J.Refused x) J.Accepted e = absurd (not-zero x (cc))
+same-judge (J.Refused x) (J.Refused y) e = ap J.Refused (same-number x y (cc))
 
 same-probe : (r s : ProbeAnswer) → probe-numbers r ≡ probe-numbers s → r ≡ s
 same-probe (P.Refused x) (P.Refused y) e = ap P.Refused (same-number x y (cc))
@@ -67,7 +67,7 @@ same-probe (P.Clause i r) P.Nothing e = absurd (clash (cc))
 same-probe (P.Clause i r) (P.Clause j s) e = ap₂ P.Clause (cc) (same-referrer r s (cc))
 
 -- the ending, the state and the moves of a settled phase
-same-settled : (d e : Ending) (q r : OwnState) (m n : ℕ) → settled-numbers (ending-as d) (q .0) m ≡ settled-numbers (ending-as e) (r .0) n → W.Settled d q m ≡ W.Settled e r n
+same-settled : (d e : Ending) (q r : OwnState) (m n : ℕ) → settled-values (ending-as d) (q .0) m ≡ settled-values (ending-as e) (r .0) n → W.Settled d q m ≡ W.Settled e r n
 same-settled ByNone ByNone q r m n e = ap₂ (W.Settled ByNone) (same-state q r (cc)) (cc)
 same-settled ByNone ByStay q r m n e = absurd (clash (cc))
 same-settled ByNone (ByDo b) q r m n e = absurd (let z : _≡_ {A = ℕ} 0 2 = cc in omega arith)
@@ -82,12 +82,12 @@ same-settled (ByDo a) (ByDo b) q r m n e =
     ap₂ (W.Settled (ByDo a)) (same-state q r (cc)) f ∙ ap (λ (x : ℕ). W.Settled (ByDo x) r n) c
 
 -- a settled phase is no loop
-not-loop : (d : Ending) (q r m n : ℕ) → settled-numbers (ending-as d) q m ≡ 3 ∷ r ∷ n ∷ [] → ⊥
+not-loop : (d : Ending) (q r m n : ℕ) → settled-values (ending-as d) q m ≡ 3 ∷ r ∷ n ∷ [] → ⊥
 not-loop ByNone q r m n e = let z : _≡_ {A = ℕ} 0 3 = cc in omega arith
 not-loop ByStay q r m n e = let z : _≡_ {A = ℕ} 1 3 = cc in omega arith
 not-loop (ByDo a) q r m n e = let z : _≡_ {A = ℕ} 2 3 = cc in omega arith
 
-same-phase : (r s : PhaseAnswer) → phase-answer-numbers r ≡ phase-answer-numbers s → r ≡ s
+same-phase : (r s : PhaseAnswer) → phase-numbers r ≡ phase-numbers s → r ≡ s
 same-phase (W.Refused x) (W.Refused y) e = ap W.Refused (same-number x y (cc))
 same-phase (W.Refused x) (W.Settled d q m) e = absurd (not-zero x (cc))
 same-phase (W.Refused x) (W.Loops q m) e = absurd (not-zero x (cc))
@@ -109,7 +109,7 @@ same-command (C.Handled q m) (C.Refused y) e = absurd (not-zero y (cc))
 same-command (C.Handled q m) (C.Ignored r) e = absurd (clash (cc))
 same-command (C.Handled q m) (C.Handled r n) e = ap₂ C.Handled (same-state q r (cc)) (cc)
 
-same-loop : (r s : LoopAnswer) → loop-answer-numbers r ≡ loop-answer-numbers s → r ≡ s
+same-loop : (r s : LoopAnswer) → loop-numbers r ≡ loop-numbers s → r ≡ s
 same-loop (L.Refused x) (L.Refused y) e = ap L.Refused (same-number x y (cc))
 same-loop (L.Refused x) (L.Loop k q) e = absurd (not-zero x (cc))
 same-loop (L.Refused x) (L.Free m) e = absurd (not-zero x (cc))
@@ -124,7 +124,7 @@ same-loop (L.Free m) (L.Free n) e = ap L.Free (cc)
 pub unique : Unique
 unique =
     record {
-      judging = λ b r s f g. same-judgement r s (f ∙ sym g);
+      judging = λ b r s f g. same-judge r s (f ∙ sym g);
       probing = λ b l q r s f g. same-probe r s (f ∙ sym g);
       phasing = λ b l q r s f g. same-phase r s (f ∙ sym g);
       commanding = λ b l q m out r s x y f g. (same-command r s (f .numbers-are ∙ sym (g .numbers-are)), f .buffer-is ∙ sym (g .buffer-is));

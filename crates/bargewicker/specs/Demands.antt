@@ -18,19 +18,20 @@ use Rattle.model.specs.Refusals.{number-of}
 use Rattle.model.specs.declared.Refusal.{Refusal}
 use Rattle.model.specs.declared.Refusal.the-variants.{Room}
 use Rattle.bodies.specs.Bytes.{Bytes}
-use Rattle.bodies.specs.Referrers.{reads-as}
+use Rattle.model.specs.Answers.{referrer-as}
 use Rattle.sheet.specs.Rules.{Accepted}
 use Rattle.sheet.specs.Reading.{class-of}
-use Rattle.sheet.specs.ChildList.{children-of, list-right, pairs, sent-bytes, written}
-use Rattle.node.specs.declared.probing.Ending.{Ending}
-use Rattle.node.specs.declared.probing.Ending.the-variants.{ByNone, ByStay, ByDo}
+use Rattle.children.specs.ChildList.{children-of, list-right, pairs, sent-bytes}
+use Rattle.model.specs.Replies.{written}
+use Rattle.model.specs.declared.Ending.{Ending}
+use Rattle.model.specs.declared.Ending.the-variants.{ByNone, ByStay, ByDo}
 use Rattle.configurations.specs.Configurations.{name-count}
 use Rattle.configurations.specs.Demand.{AllEnd, FreeRight, LoopRight}
 use Rattle.bargewicker.specs.Questions.{Question, judge, probe-in, phase-from, command-in, loop-with, lent, present-right}
 use Rattle.bargewicker.specs.Promises.{AnswerTo, refusing, Promised}
 use Rattle.bargewicker.specs.Table.{table, first-failed}
-use Rattle.bargewicker.specs.declared.Judgement.{Judgement}
-use Rattle.bargewicker.specs.declared.Judgement.the-variants as J
+use Rattle.bargewicker.specs.declared.JudgeAnswer.{JudgeAnswer}
+use Rattle.bargewicker.specs.declared.JudgeAnswer.the-variants as J
 use Rattle.bargewicker.specs.declared.ProbeAnswer.{ProbeAnswer}
 use Rattle.bargewicker.specs.declared.ProbeAnswer.the-variants as P
 use Rattle.bargewicker.specs.declared.PhaseAnswer.{PhaseAnswer}
@@ -76,7 +77,7 @@ NoneTrue c ks q = (i : ℕ) → i < length (state-of c q .whens) → holds (clau
 
 -- the probe: the first true clause of the state with its referrer and target, or none
 abbrev pub ProbeRight : Class → List Child → ℕ → ProbeAnswer → Type 0
-ProbeRight c ks q (P.Clause i x) = First c ks q i (reads-as x)
+ProbeRight c ks q (P.Clause i x) = First c ks q i (referrer-as x)
 ProbeRight c ks q P.Nothing = NoneTrue c ks q
 ProbeRight c ks q (P.Refused x) = ⊥
 
@@ -117,7 +118,7 @@ pub record Demand3 (c : Class) (present : ℕ) (out final : List ℕ) (r : LoopA
 pub record Demands : Type 0 where
   -- 1: every byte string offered as a class sheet, child list or request; "accepted" is said exactly of the sheets that the others speak of
   pub demand1 : (q : Question) (r : AnswerTo q) (final : List ℕ) → Promised q r final → Demand1 q r final
-  pub accepted : (b : List ℕ) (r : Judgement) (final : List ℕ) → Promised (judge b) r final → (r ≡ J.Accepted) ↔ Accepted b
+  pub accepted : (b : List ℕ) (r : JudgeAnswer) (final : List ℕ) → Promised (judge b) r final → (r ≡ J.Accepted) ↔ Accepted b
   -- 2: probing, the when phase and the handling of a command, for every accepted sheet, state, child list and command
   pub probing : (b l : List ℕ) (q : ℕ) → Asked b l q → (r : ProbeAnswer) (final : List ℕ) → Promised (probe-in b l q) r final → ProbeRight (class-of b) (children-of l) q r
   pub phasing : (b l : List ℕ) (q : ℕ) → Asked b l q → (r : PhaseAnswer) (final : List ℕ) → Promised (phase-from b l q) r final → PhaseRight (class-of b) (children-of l) q r

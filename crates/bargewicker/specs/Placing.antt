@@ -6,7 +6,7 @@ use lib.Dec.{ltb}
 use Rattle.model.specs.Words.{choose}
 use Rattle.model.specs.Tree.{Class}
 use Rattle.model.specs.Node.{own-states}
-use Rattle.sheet.specs.ChildList.{list-right}
+use Rattle.children.specs.ChildList.{list-right}
 
 -- 10, 11, or 0 where neither is given
 unfoldable pub placed-refusal : Class → List ℕ → ℕ → ℕ

@@ -6,9 +6,9 @@ use Prim.Native.Nat.{ℕ}
 use Rattle.model.specs.declared.Refusal.{Refusal}
 use Rattle.bargewicker.specs.Questions.{Question, judge, probe-in, phase-from, command-in, loop-with, reply}
 use Rattle.bargewicker.specs.Numbers.{numbers, Answered}
-use Rattle.bargewicker.specs.Answers.{judgement-numbers, probe-numbers, phase-answer-numbers, command-numbers, loop-answer-numbers}
-use Rattle.bargewicker.specs.declared.Judgement.{Judgement}
-use Rattle.bargewicker.specs.declared.Judgement.the-variants as J
+use Rattle.bargewicker.specs.Answers.{judge-numbers, probe-numbers, phase-numbers, command-numbers, loop-numbers}
+use Rattle.bargewicker.specs.declared.JudgeAnswer.{JudgeAnswer}
+use Rattle.bargewicker.specs.declared.JudgeAnswer.the-variants as J
 use Rattle.bargewicker.specs.declared.ProbeAnswer.{ProbeAnswer}
 use Rattle.bargewicker.specs.declared.ProbeAnswer.the-variants as P
 use Rattle.bargewicker.specs.declared.PhaseAnswer.{PhaseAnswer}
@@ -20,7 +20,7 @@ use Rattle.bargewicker.specs.declared.LoopAnswer.the-variants as L
 
 -- the type that a question is answered in
 abbrev pub AnswerTo : Question → Type 0
-AnswerTo (judge b) = Judgement
+AnswerTo (judge b) = JudgeAnswer
 AnswerTo (probe-in b l q) = ProbeAnswer
 AnswerTo (phase-from b l q) = PhaseAnswer
 AnswerTo (command-in b l q m out) = CommandAnswer
@@ -36,16 +36,16 @@ refusing (loop-with b present out) x = L.Refused x
 
 -- the paper's numbers of an answer
 abbrev pub numbers-of : (q : Question) → AnswerTo q → List ℕ
-numbers-of (judge b) r = judgement-numbers r
+numbers-of (judge b) r = judge-numbers r
 numbers-of (probe-in b l q) r = probe-numbers r
-numbers-of (phase-from b l q) r = phase-answer-numbers r
+numbers-of (phase-from b l q) r = phase-numbers r
 numbers-of (command-in b l q m out) r = command-numbers r
-numbers-of (loop-with b present out) r = loop-answer-numbers r
+numbers-of (loop-with b present out) r = loop-numbers r
 
 -- what is promised of the answer r and of the lent buffer after the call; where none is lent, none is left
 abbrev pub Promised : (q : Question) → AnswerTo q → List ℕ → Type 0
-Promised (judge b) r after = (judgement-numbers r ≡ numbers (reply (judge b))) × (after ≡ [])
+Promised (judge b) r after = (judge-numbers r ≡ numbers (reply (judge b))) × (after ≡ [])
 Promised (probe-in b l q) r after = (probe-numbers r ≡ numbers (reply (probe-in b l q))) × (after ≡ [])
-Promised (phase-from b l q) r after = (phase-answer-numbers r ≡ numbers (reply (phase-from b l q))) × (after ≡ [])
+Promised (phase-from b l q) r after = (phase-numbers r ≡ numbers (reply (phase-from b l q))) × (after ≡ [])
 Promised (command-in b l q m out) r after = Answered (command-in b l q m out) (command-numbers r) after
-Promised (loop-with b present out) r after = Answered (loop-with b present out) (loop-answer-numbers r) after
+Promised (loop-with b present out) r after = Answered (loop-with b present out) (loop-numbers r) after

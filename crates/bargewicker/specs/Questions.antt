@@ -12,7 +12,8 @@ use Rattle.model.specs.Commands.{Handling, handled, ignored, command}
 use Rattle.model.specs.Crews.{child-classes}
 use Rattle.sheet.specs.Rules.{refusal}
 use Rattle.sheet.specs.Reading.{class-of}
-use Rattle.sheet.specs.ChildList.{children-of, list-right, pairs, sent-bytes, written}
+use Rattle.children.specs.ChildList.{children-of, list-right, pairs, sent-bytes}
+use Rattle.model.specs.Replies.{written}
 use Rattle.configurations.specs.Configurations.{name-count}
 use Rattle.configurations.specs.LoopAnswer.{Loops, loop, free, loop-answer}
 
@@ -41,12 +42,12 @@ abbrev pub check : Bool → ℕ → (Unit {0} → Reply) → Reply
 check ok n rest = choose ok rest (λ _. refuse n)
 
 -- 1 to 9: the sheet's own refusal
-unfoldable pub judged : List ℕ → (Class → Reply) → Reply
-judged b rest = check (eqb (refusal b) 0) (refusal b) (λ _. rest (class-of b))
+unfoldable pub on-sheet : List ℕ → (Class → Reply) → Reply
+on-sheet b rest = check (eqb (refusal b) 0) (refusal b) (λ _. rest (class-of b))
 
 -- 10 and 11: the child list and the asked state
 unfoldable pub placed : List ℕ → List ℕ → ℕ → (Class → Reply) → Reply
-placed b l q rest = judged b λ c. check (list-right c l) 10 λ _. check (ltb q (own-states c)) 11 λ _. rest c
+placed b l q rest = on-sheet b λ c. check (list-right c l) 10 λ _. check (ltb q (own-states c)) 11 λ _. rest c
 
 unfoldable pub bytes-of-handling : Handling → List ℕ
 bytes-of-handling (handled sent q) = sent-bytes sent
@@ -79,11 +80,11 @@ reply-loop c present out =
     give (looped a) (bytes-of-loops a)
 
 unfoldable pub reply : Question → Reply
-reply (judge b) = judged b λ c. give accepted []
+reply (judge b) = on-sheet b λ c. give accepted []
 reply (probe-in b l q) = placed b l q λ c. give (probed (probe c (children-of l) q)) []
 reply (phase-from b l q) = placed b l q λ c. give (phased (phase c (children-of l) q)) []
 reply (command-in b l q m out) = placed b l q λ c. reply-command c l q m out
-reply (loop-with b present out) = judged b λ c. reply-loop c present out
+reply (loop-with b present out) = on-sheet b λ c. reply-loop c present out
 
 -- the lent buffer before the call; none is lent but for a command and the loop question
 abbrev pub lent : Question → List ℕ

@@ -13,7 +13,7 @@ use Rattle.bodies.specs.Clauses.{in-fours, in-eights}
 use Rattle.bodies.specs.BodyRules.{classes-right, counts-right, records-right, guards-right, targets-right, actions-right, statements-right}
 use Rattle.sheet.specs.Contents.{Bodies, bodies, length-right, contents-right}
 use Rattle.sheet.specs.Reading.{class-of}
-use Rattle.sheet.specs.ChildList.{children-of, list-right}
+use Rattle.children.specs.ChildList.{children-of, list-right}
 use Rattle.configurations.specs.Configurations.{name-count}
 use Rattle.bargewicker.specs.Questions.{Question, judge, probe-in, phase-from, command-in, loop-with, present-right}
 

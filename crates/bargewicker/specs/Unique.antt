@@ -5,8 +5,8 @@ use mathlib.Core.Path.{_≡_}
 use mathlib.Core.List.{List}
 use Rattle.bargewicker.specs.Questions.{Question, reply, judge, probe-in, phase-from, command-in, loop-with}
 use Rattle.bargewicker.specs.Numbers.{numbers, Answered}
-use Rattle.bargewicker.specs.Answers.{judgement-numbers, probe-numbers, phase-answer-numbers, command-numbers, loop-answer-numbers}
-use Rattle.bargewicker.specs.declared.Judgement.{Judgement}
+use Rattle.bargewicker.specs.Answers.{judge-numbers, probe-numbers, phase-numbers, command-numbers, loop-numbers}
+use Rattle.bargewicker.specs.declared.JudgeAnswer.{JudgeAnswer}
 use Rattle.bargewicker.specs.declared.ProbeAnswer.{ProbeAnswer}
 use Rattle.bargewicker.specs.declared.PhaseAnswer.{PhaseAnswer}
 use Rattle.bargewicker.specs.declared.CommandAnswer.{CommandAnswer}
@@ -22,8 +22,8 @@ OneAnswerAndBuffer A numbers-of q = (r s : A) (x y : List ℕ) → Answered q (n
 
 -- of each of the five questions
 pub record Unique : Type 0 where
-  pub judging : (b : List ℕ) → OneAnswer Judgement judgement-numbers (judge b)
+  pub judging : (b : List ℕ) → OneAnswer JudgeAnswer judge-numbers (judge b)
   pub probing : (b l : List ℕ) (q : ℕ) → OneAnswer ProbeAnswer probe-numbers (probe-in b l q)
-  pub phasing : (b l : List ℕ) (q : ℕ) → OneAnswer PhaseAnswer phase-answer-numbers (phase-from b l q)
+  pub phasing : (b l : List ℕ) (q : ℕ) → OneAnswer PhaseAnswer phase-numbers (phase-from b l q)
   pub commanding : (b l : List ℕ) (q m : ℕ) (out : List ℕ) → OneAnswerAndBuffer CommandAnswer command-numbers (command-in b l q m out)
-  pub looping : (b : List ℕ) (present : ℕ) (out : List ℕ) → OneAnswerAndBuffer LoopAnswer loop-answer-numbers (loop-with b present out)
+  pub looping : (b : List ℕ) (present : ℕ) (out : List ℕ) → OneAnswerAndBuffer LoopAnswer loop-numbers (loop-with b present out)

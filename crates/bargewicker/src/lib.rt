@@ -1,36 +1,36 @@
 // The face: the five questions on bytes and numbers. Each gets an answer for any input; nothing is asked of the caller beforehand, and
 // a refusal writes no byte into a lent buffer. What each answer means is in specs/: Questions.antt and Answers.antt.
-use bodies::clauses::Referrer;
+use accepted::held::CLASSES;
+use accepted::readers::body_of;
+use accepted::readers::class_count;
+use accepted::readers::state_count;
+use children::crews::occupy;
+use children::lists::list_ok;
 use commands::Handling;
 use commands::handle;
-use judged::held::CLASSES;
-use judged::readers::body_of;
-use judged::readers::class_count;
-use judged::readers::state_count;
 use loops::cells::read_cells;
 use loops::search::Answer;
 use loops::search::search;
 use loops::search::write_list;
+use model::Ending;
 use model::OwnState;
+use model::Phase;
+use model::Probed;
+use model::Referrer;
 use model::Refusal;
-use node::crews::occupy;
-use node::lists::list_ok;
-use node::phases::Phase;
-use node::probing::Ending;
-use node::probing::Probed;
-use sheet::judging::Judged;
 use sheet::judging::Places;
+use sheet::judging::Verdict;
 ghost use mathlib.Core.Path.{_≡_};
 ghost use Rattle.model.specs.Refusals.{number-of};
-ghost use Rattle.sheet.specs.Judgement.{Stands};
+ghost use Rattle.sheet.specs.Verdict.{Stands};
 ghost use Rattle.sheet.specs.Reading.{class-of};
 ghost use Rattle.bargewicker.specs.Questions.{bits-below, judge, probe-in, phase-from, command-in, loop-with, reply};
 ghost use Rattle.bargewicker.specs.Numbers.{numbers, Answered};
 ghost use Rattle.bargewicker.specs.Placing.{placed-refusal};
-ghost use Rattle.bargewicker.specs.Answers.{placing-number, judgement-numbers, probe-numbers, phase-answer-numbers, command-numbers, loop-answer-numbers};
+ghost use Rattle.bargewicker.specs.Answers.{placing-number, judge-numbers, probe-numbers, phase-numbers, command-numbers, loop-numbers};
 
 // The judge's answer.
-pub enum Judgement {
+pub enum JudgeAnswer {
     Accepted,
     Refused(Refusal),
 }
@@ -87,13 +87,13 @@ pub fn refusal_number(x: Refusal) -> u64
 }
 
 // Is this byte string a class sheet?
-pub fn judge(sheet: &[u8]) -> Judgement
-    ensures { λ r. ⌜ judgement-numbers r ≡ numbers (reply (judge (now (sheet .entry)))) ⌝ }
+pub fn judge(sheet: &[u8]) -> JudgeAnswer
+    ensures { λ r. ⌜ judge-numbers r ≡ numbers (reply (judge (now (sheet .entry)))) ⌝ }
 {
-    let judged = sheet::judging::judge(sheet);
-    match judged {
-        Judged::Accepted(_) => Judgement::Accepted,
-        Judged::Refused(x) => Judgement::Refused(x),
+    let verdict = sheet::judging::judge(sheet);
+    match verdict {
+        Verdict::Accepted(_) => JudgeAnswer::Accepted,
+        Verdict::Refused(x) => JudgeAnswer::Refused(x),
     }
 }
 
@@ -101,21 +101,21 @@ pub fn judge(sheet: &[u8]) -> Judgement
 pub fn probe(sheet: &[u8], children: &[u8], state: u8) -> ProbeAnswer
     ensures { λ r. ⌜ probe-numbers r ≡ numbers (reply (probe-in (now (sheet .entry)) (now (children .entry)) state)) ⌝ }
 {
-    let judged = sheet::judging::judge(sheet);
-    match judged {
-        Judged::Accepted(p) => probe_in(sheet, p, children, state),
-        Judged::Refused(x) => ProbeAnswer::Refused(x),
+    let verdict = sheet::judging::judge(sheet);
+    match verdict {
+        Verdict::Accepted(p) => probe_in(sheet, p, children, state),
+        Verdict::Refused(x) => ProbeAnswer::Refused(x),
     }
 }
 
 // Where does the when phase from the state settle with these children, or does it loop?
 pub fn when_phase(sheet: &[u8], children: &[u8], state: u8) -> PhaseAnswer
-    ensures { λ r. ⌜ phase-answer-numbers r ≡ numbers (reply (phase-from (now (sheet .entry)) (now (children .entry)) state)) ⌝ }
+    ensures { λ r. ⌜ phase-numbers r ≡ numbers (reply (phase-from (now (sheet .entry)) (now (children .entry)) state)) ⌝ }
 {
-    let judged = sheet::judging::judge(sheet);
-    match judged {
-        Judged::Accepted(p) => phase_from(sheet, p, children, state),
-        Judged::Refused(x) => PhaseAnswer::Refused(x),
+    let verdict = sheet::judging::judge(sheet);
+    match verdict {
+        Verdict::Accepted(p) => phase_from(sheet, p, children, state),
+        Verdict::Refused(x) => PhaseAnswer::Refused(x),
     }
 }
 
@@ -129,21 +129,21 @@ pub fn command(
 ) -> CommandAnswer
     ensures { λ r. ⌜ Answered (command-in (now (sheet .entry)) (now (children .entry)) state command (now (out .entry))) (command-numbers r) (now (out .exit)) ⌝ }
 {
-    let judged = sheet::judging::judge(sheet);
-    match judged {
-        Judged::Accepted(p) => command_in(sheet, p, children, state, command, out),
-        Judged::Refused(x) => CommandAnswer::Refused(x),
+    let verdict = sheet::judging::judge(sheet);
+    match verdict {
+        Verdict::Accepted(p) => command_in(sheet, p, children, state, command, out),
+        Verdict::Refused(x) => CommandAnswer::Refused(x),
     }
 }
 
 // Which states of children of the present classes can make the node loop, or how many moves does it make at most?
 pub fn loop_question(sheet: &[u8], present: u8, out: &mut [u8]) -> LoopAnswer
-    ensures { λ r. ⌜ Answered (loop-with (now (sheet .entry)) present (now (out .entry))) (loop-answer-numbers r) (now (out .exit)) ⌝ }
+    ensures { λ r. ⌜ Answered (loop-with (now (sheet .entry)) present (now (out .entry))) (loop-numbers r) (now (out .exit)) ⌝ }
 {
-    let judged = sheet::judging::judge(sheet);
-    match judged {
-        Judged::Accepted(p) => loop_with(sheet, p, present, out),
-        Judged::Refused(x) => LoopAnswer::Refused(x),
+    let verdict = sheet::judging::judge(sheet);
+    match verdict {
+        Verdict::Accepted(p) => loop_with(sheet, p, present, out),
+        Verdict::Refused(x) => LoopAnswer::Refused(x),
     }
 }
 
@@ -188,7 +188,7 @@ fn probe_in(sheet: &[u8], p: Places, children: &[u8], state: u8) -> ProbeAnswer
 // The when phase.
 fn phase_from(sheet: &[u8], p: Places, children: &[u8], state: u8) -> PhaseAnswer
     requires { ⌜ Stands (now sheet) p ⌝ }
-    ensures { λ r. ⌜ phase-answer-numbers r ≡ numbers (reply (phase-from (now (sheet .entry)) (now (children .entry)) state)) ⌝ }
+    ensures { λ r. ⌜ phase-numbers r ≡ numbers (reply (phase-from (now (sheet .entry)) (now (children .entry)) state)) ⌝ }
 {
     let placing = place(sheet, p, children, state);
     if let Placing::Refused(x) = placing {
@@ -253,7 +253,7 @@ fn present_ok(present: u8, classes: usize) -> bool
 // The loop question: 13, 14 and 15, then the search; on a loop its list is written.
 fn loop_with(sheet: &[u8], p: Places, present: u8, out: &mut [u8]) -> LoopAnswer
     requires { ⌜ Stands (now sheet) p ⌝ }
-    ensures { λ r. ⌜ Answered (loop-with (now (sheet .entry)) present (now (out .entry))) (loop-answer-numbers r) (now (out .exit)) ⌝ }
+    ensures { λ r. ⌜ Answered (loop-with (now (sheet .entry)) present (now (out .entry))) (loop-numbers r) (now (out .exit)) ⌝ }
 {
     if !present_ok(present, class_count(sheet, p)) {
         return LoopAnswer::Refused(Refusal::PresentBit);

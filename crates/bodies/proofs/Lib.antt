@@ -1,6 +1,5 @@
 pub mod Computing
 pub mod Bytes
-pub mod Bits
 pub mod GuardLaws
 pub mod CheckLaws
 pub mod Branches

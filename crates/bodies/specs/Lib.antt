@@ -4,6 +4,5 @@ pub mod Ends
 pub mod StatementRecords
 pub mod PartChecks
 pub mod Clauses
-pub mod Referrers
 pub mod Patterns
 pub mod BodyRules

@@ -1,4 +1,6 @@
 // The rules 3 to 9 of a sheet, each a check of the bodies that it speaks of.
+use crate::clauses::ACTION_CLAUSES;
+use crate::clauses::WHEN_CLAUSES;
 use crate::clauses::action_command;
 use crate::clauses::count_at;
 use crate::clauses::count_sum;
@@ -36,8 +38,8 @@ pub fn counts_ok(states: &[u8], whens: usize, actions: usize) -> bool
     ensures { λ r. ⌜ r ≡ counts-right (now (states .entry)) whens actions ⌝ }
 {
     let n = states.len() / 4;
-    let when_sum = count_sum(states, 0, n);
-    let action_sum = count_sum(states, 2, n);
+    let when_sum = count_sum(states, WHEN_CLAUSES, n);
+    let action_sum = count_sum(states, ACTION_CLAUSES, n);
     (when_sum == whens) & (action_sum == actions)
 }
 
@@ -77,9 +79,9 @@ fn state_targets_ok(states: &[u8], whens: &[u8], q: usize) -> bool
     ensures { λ r. ⌜ r ≡ state-targets-right (now (states .entry)) (now (whens .entry)) q ⌝ }
 {
     let own_states = states.len() / 4;
-    let own_actions = count_at(states, 2, q);
-    let first = count_sum(states, 0, q);
-    let n = count_at(states, 0, q);
+    let own_actions = count_at(states, ACTION_CLAUSES, q);
+    let first = count_sum(states, WHEN_CLAUSES, q);
+    let n = count_at(states, WHEN_CLAUSES, q);
     let mut i = 0;
     while i < n {
         if !target_ok(own_states, own_actions, whens, first + i) {
@@ -153,8 +155,8 @@ fn none_twice(states: &[u8], actions: &[u8], q: usize) -> bool
     requires { ⌜ q < 1024 ⌝ }
     ensures { λ r. ⌜ r ≡ none-twice (now (states .entry)) (now (actions .entry)) q ⌝ }
 {
-    let first = count_sum(states, 2, q);
-    let n = count_at(states, 2, q);
+    let first = count_sum(states, ACTION_CLAUSES, q);
+    let n = count_at(states, ACTION_CLAUSES, q);
     let mut i = 0;
     while i < n {
         if !command_is_new(actions, first, i) {

@@ -4,18 +4,16 @@ use crate::words::byte_at;
 use crate::words::narrow_at;
 use crate::words::u16_at;
 use crate::words::u32_at;
-use model::OwnState;
+use model::Referrer;
 ghost use mathlib.Core.Path.{_≡_};
 ghost use Prim.Native.Nat.{_<_, _≤_, _*_};
 ghost use Rattle.bodies.specs.Clauses.{name-set, count-at, count-sum, guard-place, referrer-number, target, action-command, referrer-of};
-ghost use Rattle.bodies.specs.Referrers.{reads-as};
+ghost use Rattle.model.specs.Answers.{referrer-as};
 
-// A when clause's referrer with its target.
-pub enum Referrer {
-    MoveTo(OwnState),
-    Do(u8),
-    Stay,
-}
+// Where a state's record has the counts of its when clauses and of its action clauses.
+pub const WHEN_CLAUSES: usize = 0;
+
+pub const ACTION_CLAUSES: usize = 2;
 
 // The name set of child class i.
 pub fn name_set(classes: &[u8], i: usize) -> u32
@@ -58,7 +56,7 @@ pub fn guard_place(whens: &[u8], w: usize) -> usize
 // When clause w's referrer with its target, in the kind of number that it is.
 pub fn referrer_at(whens: &[u8], w: usize) -> Referrer
     requires { ⌜ w < 4294967296 ⌝ }
-    ensures { λ r. ⌜ reads-as r ≡ referrer-of (referrer-number (now (whens .entry)) w) (target (now (whens .entry)) w) ⌝ }
+    ensures { λ r. ⌜ referrer-as r ≡ referrer-of (referrer-number (now (whens .entry)) w) (target (now (whens .entry)) w) ⌝ }
 {
     let number = byte_at(whens, w * 4 + 2);
     let target = w * 4 + 3;
@@ -70,9 +68,9 @@ pub fn referrer_at(whens: &[u8], w: usize) -> Referrer
 }
 
 // Action clause a's command.
-pub fn action_command(actions: &[u8], a: usize) -> usize
+pub fn action_command(actions: &[u8], a: usize) -> u8
     requires { ⌜ a < 4294967296 ⌝ }
-    ensures { λ r. ⌜ (r ≡ action-command (now (actions .entry)) a) × (r < 256) ⌝ }
+    ensures { λ r. ⌜ r ≡ action-command (now (actions .entry)) a ⌝ }
 {
-    byte_at(actions, a * 4)
+    narrow_at(actions, a * 4)
 }

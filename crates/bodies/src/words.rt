@@ -3,6 +3,7 @@ ghost use mathlib.Core.Path.{_≡_};
 ghost use Prim.Native.Nat.{_<_, _/_};
 ghost use lib.ListN.{length};
 ghost use Rattle.bodies.specs.Bytes.{byte, u16, u32, record-at};
+ghost use Rattle.bodies.specs.Clauses.{in-fours, in-eights};
 
 // A byte as a number.
 fn wide(x: u8) -> usize
@@ -58,4 +59,18 @@ pub fn record_at(b: &[u8], i: usize) -> &[u8]
     let from = i * 8;
     let to = from + 8;
     &b[from..to]
+}
+
+// How many records of 4 bytes a body has.
+pub fn in_fours(b: &[u8]) -> usize
+    ensures { λ r. ⌜ r ≡ in-fours (now (b .entry)) ⌝ }
+{
+    b.len() / 4
+}
+
+// How many records of 8 bytes a body has.
+pub fn in_eights(b: &[u8]) -> usize
+    ensures { λ r. ⌜ r ≡ in-eights (now (b .entry)) ⌝ }
+{
+    b.len() / 8
 }

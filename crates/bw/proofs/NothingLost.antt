@@ -12,25 +12,25 @@ use borrow.Author.Tests.{ltb-true, leb-true}
 use Rattle.model.specs.Tree.{Child, move-to, run, stay, Class}
 use Rattle.model.specs.Node.{own-states, Probed, nothing, found, probe, by-none, by-stay, by-do, Phase, settled, loops, phase}
 use Rattle.model.specs.Commands.{Handling, handled, ignored, command}
-use Rattle.model.proofs.Phase.{phase-settled, phase-loops}
+use Rattle.model.proofs.NodeLaws.{phase-settled, phase-loops}
 use Rattle.bodies.specs.Bytes.{Bytes}
 use Rattle.bodies.proofs.Branches.{choose-case}
 use Rattle.sheet.specs.Rules.{refusal, Accepted}
 use Rattle.sheet.specs.Reading.{class-of}
-use Rattle.sheet.specs.ChildList.{children-of, list-right}
+use Rattle.children.specs.ChildList.{children-of, list-right}
 use Rattle.sheet.proofs.VerdictLaws.{refusal-most}
 use Rattle.sheet.proofs.Sound.{sound}
 use Rattle.configurations.specs.Configurations.{name-count}
 use Rattle.configurations.specs.LoopAnswer.{Loops, loop, free, loop-answer}
 use Rattle.configurations.specs.Demand.{AnswerRight}
 use Rattle.configurations.proofs.Demand.{demanded}
-use Rattle.bargewicker.specs.Questions.{accepted, judge, probe-in, phase-from, command-in, loop-with, Reply, refuse, give, probed, phased, commanded, looped, check, judged, placed, reply, reply-command, reply-loop, bytes-of-handling, bytes-of-loops, present-right}
-use Rattle.bargewicker.specs.Numbers.{numbers, values, handling-numbers}
+use Rattle.bargewicker.specs.Questions.{accepted, judge, probe-in, phase-from, command-in, loop-with, Reply, refuse, give, probed, phased, commanded, looped, check, on-sheet, placed, reply, reply-command, reply-loop, bytes-of-handling, bytes-of-loops, present-right}
+use Rattle.bargewicker.specs.Numbers.{numbers, values, handling-values}
 use Rattle.bw.specs.Packed.{Field, word, unpacked, packed, kinds-of-probe, kinds-of-phase, kinds-of-command, kinds-of-loop, NothingLost}
 use Rattle.bargewicker.proofs.FaceLaws.{refused-first, asked}
 use Rattle.bw.proofs.SentCount.{children-most}
 use Rattle.bw.proofs.AnswerBounds.{state-left, few, found-small, do-small, reached-small, left-small, sent-small}
-use Rattle.bw.proofs.ReadBack.{back-judged, back-refused, back-nothing, back-clause, back-reached, back-do, back-command, back-free, back-loop}
+use Rattle.bw.proofs.ReadBack.{back-judge, back-refused, back-nothing, back-clause, back-reached, back-do, back-command, back-free, back-loop}
 
 -- the numbers of a reply are read back from its word
 abbrev Kept : List (List Field) → Reply → Type 0
@@ -41,10 +41,10 @@ module _ (P : Reply → Type 0) (no : (n : ℕ) → 1 ≤ n → n ≤ 15 → P (
   checked-by : (ok : Bool) (n : ℕ) (rest : Unit {0} → Reply) → 1 ≤ n → n ≤ 15 → (ok ≡ true → P (rest tt)) → P (check ok n rest)
   checked-by ok n rest l m pass = choose-case P ok rest (λ _. refuse n) pass (λ _. no n l m)
 
-  judged-by : (b : List ℕ) (rest : Class → Reply) → (Accepted b → P (rest (class-of b))) → P (judged b rest)
-  judged-by b rest pass = go (refusal b) refl (refusal-most b)
+  by-sheet : (b : List ℕ) (rest : Class → Reply) → (Accepted b → P (rest (class-of b))) → P (on-sheet b rest)
+  by-sheet b rest pass = go (refusal b) refl (refusal-most b)
     where
-      go : (n : ℕ) → refusal b ≡ n → n ≤ 9 → P (judged b rest)
+      go : (n : ℕ) → refusal b ≡ n → n ≤ 9 → P (on-sheet b rest)
       go zero e l = subst P (sym (asked b rest e)) (pass e)
       go (suc n) e l = subst P (sym (refused-first b rest (suc n) (sym e) (omega arith))) (no (suc n) (omega arith) (omega arith))
 
@@ -52,14 +52,14 @@ module _ (P : Reply → Type 0) (no : (n : ℕ) → 1 ≤ n → n ≤ 15 → P (
       → P (placed b l q rest)
   unfolding placed
   placed-by b l q rest pass =
-      judged-by b _ λ a.
+      by-sheet b _ λ a.
       checked-by (list-right (class-of b) l) 10 _ (omega arith) (omega arith) λ r.
       checked-by (ltb q (own-states (class-of b))) 11 _ (omega arith) (omega arith) λ e. pass a r (ltb-true q (own-states (class-of b)) e)
 
 -- every refusal is read back
 no-kinds : (n : ℕ) → n ≤ 15 → Kept [] (refuse n)
 unfolding numbers
-no-kinds n l = back-judged n (omega arith)
+no-kinds n l = back-judge n (omega arith)
 
 no-answer : (k : List Field) (ks : List (List Field)) (n : ℕ) → 1 ≤ n → n ≤ 15 → Kept (k ∷ ks) (refuse n)
 unfolding numbers
@@ -67,7 +67,7 @@ no-answer k ks n l m = back-refused k ks n l (omega arith)
 
 accepted-kept : Kept [] (give accepted [])
 unfolding numbers values
-accepted-kept = back-judged 0 (omega arith)
+accepted-kept = back-judge 0 (omega arith)
 
 -- all that the probe, the when phase and the loop question answer fits
 module _ (b : List ℕ) (h : Bytes b) (a : Accepted b) (ks : List Child) where
@@ -122,14 +122,14 @@ module _ (b : List ℕ) (h : Bytes b) (a : Accepted b) (ks : List Child) where
 
 -- a command's answer
 handling-kept : (x : Handling) → state-left x < 256 → length (bytes-of-handling x) < 4294967296 → Kept kinds-of-command (give (commanded x) (bytes-of-handling x))
-unfolding numbers values handling-numbers
+unfolding numbers values handling-values
 handling-kept (handled sent s) l m = back-command 1 s (length (bytes-of-handling (handled sent s))) (omega arith) l m refl
 handling-kept (ignored s) l m = back-command 0 s 0 (omega arith) l (omega arith) refl
 
 -- each number is read back
 pub nothing-lost : NothingLost
 unfolding packed reply reply-command reply-loop
-nothing-lost (judge b) h = judged-by (Kept []) (λ n _ l. no-kinds n l) b _ (λ a. accepted-kept)
+nothing-lost (judge b) h = by-sheet (Kept []) (λ n _ l. no-kinds n l) b _ (λ a. accepted-kept)
 nothing-lost (probe-in b l q) h = placed-by (Kept kinds-of-probe) (no-answer _ _) b l q _ (λ a _ _. probe-kept b h a (children-of l) q)
 nothing-lost (phase-from b l q) h = placed-by (Kept kinds-of-phase) (no-answer _ _) b l q _ (λ a _ low. phase-kept b h a (children-of l) q low)
 nothing-lost (command-in b l q m out) h =
@@ -138,7 +138,7 @@ nothing-lost (command-in b l q m out) h =
     checked-by (Kept kinds-of-command) (no-answer _ _) (leb (length (bytes-of-handling (command (class-of b) (children-of l) q m))) (length out)) 15 _ (omega arith) (omega arith) λ _.
     handling-kept (command (class-of b) (children-of l) q m) (left-small b h a (children-of l) q low m) (sent-small b h a (children-of l) q low m (children-most (class-of b) l right))
 nothing-lost (loop-with b present out) h =
-    judged-by (Kept kinds-of-loop) (no-answer _ _) b _ λ a.
+    by-sheet (Kept kinds-of-loop) (no-answer _ _) b _ λ a.
     checked-by (Kept kinds-of-loop) (no-answer _ _) (present-right (class-of b) present) 13 _ (omega arith) (omega arith) λ _.
     checked-by (Kept kinds-of-loop) (no-answer _ _) (leb (name-count (class-of b) present) 20) 14 _ (omega arith) (omega arith) λ e.
     checked-by (Kept kinds-of-loop) (no-answer _ _) (leb (2 * name-count (class-of b) present) (length out)) 15 _ (omega arith) (omega arith) λ _.

@@ -8,14 +8,14 @@ use Rattle.model.specs.Refusals.{number-of}
 use Rattle.model.specs.declared.Refusal.{Refusal}
 use Rattle.model.specs.declared.Refusal.the-variants.{SheetLength, Contents, EmptyNameSet, ClauseCounts, GuardLayout, GuardReach, Target, ActionClause, Statement, ChildList, AskedState, AskedCommand, PresentBit, NameCount, Room}
 use Rattle.model.specs.declared.OwnState.{OwnState}
-use Rattle.bodies.specs.Referrers.{reads-as}
-use Rattle.bodies.specs.declared.clauses.Referrer.{Referrer}
-use Rattle.bodies.specs.declared.clauses.Referrer.the-variants.{MoveTo, Do, Stay}
-use Rattle.node.specs.Probing.{ending-as}
-use Rattle.node.specs.declared.probing.Ending.{Ending}
-use Rattle.node.specs.declared.probing.Ending.the-variants.{ByNone, ByStay, ByDo}
+use Rattle.model.specs.Answers.{referrer-as}
+use Rattle.model.specs.declared.Referrer.{Referrer}
+use Rattle.model.specs.declared.Referrer.the-variants.{MoveTo, Do, Stay}
+use Rattle.model.specs.Answers.{ending-as}
+use Rattle.model.specs.declared.Ending.{Ending}
+use Rattle.model.specs.declared.Ending.the-variants.{ByNone, ByStay, ByDo}
 use Rattle.bargewicker.specs.Questions.{Question}
-use Rattle.bargewicker.specs.Numbers.{referrer-numbers, settled-numbers, Answered}
+use Rattle.bargewicker.specs.Numbers.{referrer-values, settled-values, Answered}
 use Rattle.bw.specs.Packed.{Field, side-by-side, fields, word, kinds, packed, kinds-of-probe, kinds-of-phase, kinds-of-command, kinds-of-loop, Returned, OneWordAndBuffer}
 
 -- the largest number of a refusal is 15
@@ -29,29 +29,29 @@ word-refused ks x r e ns f = let l = small x in let z : r ≡ word ks (number-of
 
 -- the probe: a clause with each of the three referrers
 module _ (i : ℕ) (r : Referrer) where
-  pub word-move : (t : OwnState) → r ≡ MoveTo t → t .0 < 256 → 256 + i % 65536 * 65536 + t .0 * 1099511627776 ≡ word kinds-of-probe (0 ∷ 1 ∷ i ∷ referrer-numbers (reads-as r))
+  pub word-move : (t : OwnState) → r ≡ MoveTo t → t .0 < 256 → 256 + i % 65536 * 65536 + t .0 * 1099511627776 ≡ word kinds-of-probe (0 ∷ 1 ∷ i ∷ referrer-values (referrer-as r))
   unfolding word fields side-by-side
   word-move t e l = rw e (omega arith)
 
-  pub word-do : (a : ℕ) → r ≡ Do a → a < 256 → 256 + i % 65536 * 65536 + 4294967296 + a * 1099511627776 ≡ word kinds-of-probe (0 ∷ 1 ∷ i ∷ referrer-numbers (reads-as r))
+  pub word-do : (a : ℕ) → r ≡ Do a → a < 256 → 256 + i % 65536 * 65536 + 4294967296 + a * 1099511627776 ≡ word kinds-of-probe (0 ∷ 1 ∷ i ∷ referrer-values (referrer-as r))
   unfolding word fields side-by-side
   word-do a e l = rw e (omega arith)
 
-  pub word-stay : r ≡ Stay → 256 + i % 65536 * 65536 + 8589934592 ≡ word kinds-of-probe (0 ∷ 1 ∷ i ∷ referrer-numbers (reads-as r))
+  pub word-stay : r ≡ Stay → 256 + i % 65536 * 65536 + 8589934592 ≡ word kinds-of-probe (0 ∷ 1 ∷ i ∷ referrer-values (referrer-as r))
   unfolding word fields side-by-side
   word-stay e = rw e (omega arith)
 
 -- the when phase: settled by each of the three endings, or a loop
 module _ (q m : ℕ) (l : q < 256) where
-  pub word-by-none : (e : Ending) → e ≡ ByNone → q * 65536 + m % 256 * 16777216 ≡ word kinds-of-phase (0 ∷ settled-numbers (ending-as e) q m)
+  pub word-by-none : (e : Ending) → e ≡ ByNone → q * 65536 + m % 256 * 16777216 ≡ word kinds-of-phase (0 ∷ settled-values (ending-as e) q m)
   unfolding word fields side-by-side
   word-by-none e f = rw f (omega arith)
 
-  pub word-by-stay : (e : Ending) → e ≡ ByStay → 256 + (q * 65536 + m % 256 * 16777216) ≡ word kinds-of-phase (0 ∷ settled-numbers (ending-as e) q m)
+  pub word-by-stay : (e : Ending) → e ≡ ByStay → 256 + (q * 65536 + m % 256 * 16777216) ≡ word kinds-of-phase (0 ∷ settled-values (ending-as e) q m)
   unfolding word fields side-by-side
   word-by-stay e f = rw f (omega arith)
 
-  pub word-by-do : (e : Ending) (c : ℕ) → e ≡ ByDo c → 512 + (q * 65536 + m % 256 * 16777216) + c % 256 * 4294967296 ≡ word kinds-of-phase (0 ∷ settled-numbers (ending-as e) q m)
+  pub word-by-do : (e : Ending) (c : ℕ) → e ≡ ByDo c → 512 + (q * 65536 + m % 256 * 16777216) + c % 256 * 4294967296 ≡ word kinds-of-phase (0 ∷ settled-values (ending-as e) q m)
   unfolding word fields side-by-side
   word-by-do e c f = rw f (omega arith)
 

@@ -10,9 +10,9 @@ use borrow.Author.Tests.{ne-eqb}
 use Rattle.bw.specs.Packed.{Field, refused, kind, clause, referrer, target, state, moves, to-do, bytes-written, configuration, side-by-side, fields, word, read, unpacked, kinds-of-probe, kinds-of-phase, kinds-of-command, kinds-of-loop}
 
 -- a refusal
-pub back-judged : (n : ℕ) → n < 256 → unpacked [] (word [] (n ∷ [])) ≡ n ∷ []
+pub back-judge : (n : ℕ) → n < 256 → unpacked [] (word [] (n ∷ [])) ≡ n ∷ []
 unfolding word fields side-by-side unpacked
-back-judged n l = let w = word [] (n ∷ []) in let e : read w refused ≡ n = omega arith in ap (λ (x : ℕ). x ∷ []) e
+back-judge n l = let w = word [] (n ∷ []) in let e : read w refused ≡ n = omega arith in ap (λ (x : ℕ). x ∷ []) e
 
 pub back-refused : (k : List Field) (ks : List (List Field)) (n : ℕ) → 1 ≤ n → n < 256 → unpacked (k ∷ ks) (word (k ∷ ks) (n ∷ [])) ≡ n ∷ []
 unfolding word fields side-by-side unpacked

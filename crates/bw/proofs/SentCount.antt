@@ -24,7 +24,7 @@ use Rattle.bodies.proofs.Bytes.{length-records}
 use Rattle.bodies.proofs.Branches.{choose-case, maybe-case, read-case}
 use Rattle.sheet.specs.Contents.{Bodies}
 use Rattle.sheet.specs.Reading.{action-in}
-use Rattle.sheet.specs.ChildList.{children-of, list-right, sent-bytes}
+use Rattle.children.specs.ChildList.{children-of, list-right, sent-bytes}
 
 -- how many statements there are, those of an if's parts counted
 mutual

@@ -1,17 +1,17 @@
 // The face for C: each question as an exported function that returns one word. A slice is a pointer and a length to C; nothing more is
 // asked of the caller, and a refusal writes nothing. What a word holds is in specs/Packed.antt, and for C in include/bargewicker.h.
 use bargewicker::CommandAnswer;
-use bargewicker::Judgement;
+use bargewicker::JudgeAnswer;
 use bargewicker::LoopAnswer;
 use bargewicker::PhaseAnswer;
 use bargewicker::ProbeAnswer;
 use bargewicker::refusal_number;
-use bodies::clauses::Referrer;
+use model::Ending;
 use model::OwnState;
-use node::probing::Ending;
+use model::Referrer;
 ghost use mathlib.Core.Path.{_≡_};
 ghost use Rattle.bargewicker.specs.Questions.{judge, probe-in, phase-from, command-in, loop-with};
-ghost use Rattle.bargewicker.specs.Answers.{probe-numbers, phase-answer-numbers, command-numbers, loop-answer-numbers};
+ghost use Rattle.bargewicker.specs.Answers.{probe-numbers, phase-numbers, command-numbers, loop-numbers};
 ghost use Rattle.bw.specs.Packed.{packed, word, kinds-of-probe, kinds-of-phase, kinds-of-command, kinds-of-loop, Returned};
 
 // A value times one of these stands in its field of the word.
@@ -40,8 +40,8 @@ pub extern "C" fn bw_judge(sheet: &[u8]) -> u64
 {
     let answer = bargewicker::judge(sheet);
     match answer {
-        Judgement::Accepted => 0,
-        Judgement::Refused(x) => refusal_number(x),
+        JudgeAnswer::Accepted => 0,
+        JudgeAnswer::Refused(x) => refusal_number(x),
     }
 }
 
@@ -108,7 +108,7 @@ fn pack_clause(number: usize, referrer: Referrer) -> u64
 
 // The when phase's word.
 fn pack_phase(answer: PhaseAnswer) -> u64
-    ensures { λ r. ⌜ r ≡ word kinds-of-phase (phase-answer-numbers answer) ⌝ }
+    ensures { λ r. ⌜ r ≡ word kinds-of-phase (phase-numbers answer) ⌝ }
 {
     match answer {
         PhaseAnswer::Refused(x) => refusal_number(x),
@@ -119,7 +119,7 @@ fn pack_phase(answer: PhaseAnswer) -> u64
 
 // A settled phase's word: by what, the state, the moves.
 fn pack_settled(ending: Ending, q: OwnState, m: usize) -> u64
-    ensures { λ r. ⌜ r ≡ word kinds-of-phase (phase-answer-numbers (PhaseAnswer.Settled ending q m)) ⌝ }
+    ensures { λ r. ⌜ r ≡ word kinds-of-phase (phase-numbers (PhaseAnswer.Settled ending q m)) ⌝ }
 {
     let reached = (q.0 as u64) * STATE + (m as u64) % 256 * MOVES;
     match ending {
@@ -144,7 +144,7 @@ fn pack_command(answer: CommandAnswer) -> u64
 
 // The loop question's word.
 fn pack_loop(answer: LoopAnswer) -> u64
-    ensures { λ r. ⌜ r ≡ word kinds-of-loop (loop-answer-numbers answer) ⌝ }
+    ensures { λ r. ⌜ r ≡ word kinds-of-loop (loop-numbers answer) ⌝ }
 {
     match answer {
         LoopAnswer::Refused(x) => refusal_number(x),

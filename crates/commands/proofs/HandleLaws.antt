@@ -20,7 +20,7 @@ use Rattle.model.proofs.Words.{clash, and-right, lt-or-le, each-elim, least-som
 use Rattle.bodies.specs.Bytes.{records}
 use Rattle.sheet.specs.Contents.{body, bodies}
 use Rattle.bodies.specs.Clauses.{in-fours, in-eights, count-at, count-sum, first-action, action-count, action-command, statement-count, first-statement, statements-of, body-of}
-use Rattle.sheet.specs.ChildList.{children-of, sent-bytes}
+use Rattle.children.specs.ChildList.{children-of, sent-bytes}
 use Rattle.bodies.specs.BodyRules.{counts-right, statements-right}
 use Rattle.sheet.specs.Reading.{action-in, state-in, class-of}
 use Rattle.bodies.proofs.Bytes.{length-records}

@@ -14,13 +14,13 @@ use Rattle.model.specs.Guards.{holds}
 use Rattle.model.specs.Commands as Tree
 use Rattle.bodies.specs.Bytes.{byte, u16, records}
 use Rattle.bodies.specs.Clauses.{in-eights}
-use Rattle.sheet.specs.ChildList.{children-of, sent-bytes}
+use Rattle.children.specs.ChildList.{children-of, sent-bytes}
 use Rattle.bodies.specs.GuardRecords.{got, guard-from, pattern-of}
 use Rattle.bodies.specs.StatementRecords.{part-length}
 use Rattle.bodies.specs.PartChecks.{parts-of}
 use Rattle.bodies.proofs.PartLaws.{front, length-plain}
 use Rattle.node.specs.Values.{truth-of}
-use Rattle.node.specs.Probing.{Crewed}
+use Rattle.children.specs.NameSets.{Crewed}
 use Rattle.commands.specs.Commands.{SendsAll, Does, RunsPart, RunsIf}
 use Rattle.commands.specs.declared.Moved.the-variants.{Not, To}
 use Rattle.commands.specs.declared.Ran.{Ran}

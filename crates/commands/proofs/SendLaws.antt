@@ -12,9 +12,9 @@ use Rattle.model.specs.Words.{kept}
 use Rattle.model.specs.Tree.{Child, Pattern, everyone, of-class}
 use Rattle.model.specs.Guards.{concerns}
 use Rattle.model.specs.Commands.{Sent, sent-to}
-use Rattle.sheet.specs.ChildList.{children-of, sent-bytes}
+use Rattle.children.specs.ChildList.{children-of, sent-bytes}
 use Rattle.commands.specs.Commands.{concerned, SendsAll}
-use Rattle.node.proofs.CrewLaws.{no-pair}
+use Rattle.children.proofs.CrewLaws.{no-pair}
 
 -- a run of stores in two parts
 pub sets-append : (l : List ℕ) (i : ℕ) (xs ys : List ℕ) → sets l i (xs ++ ys) ≡ sets (sets l i xs) (i + length xs) ys

@@ -18,8 +18,8 @@ use Rattle.bodies.specs.Clauses.{first-action, action-count, action-command, in
 use Rattle.bodies.specs.StatementRecords.{if-from, part-at}
 use Rattle.bodies.specs.PartChecks.{parts-of}
 use Rattle.sheet.specs.Reading.{class-of}
-use Rattle.sheet.specs.ChildList.{children-of, sent-bytes}
-use Rattle.node.specs.Probing.{Crewed}
+use Rattle.children.specs.ChildList.{children-of, sent-bytes}
+use Rattle.children.specs.NameSets.{Crewed}
 use Rattle.commands.specs.declared.Moved.{Moved}
 use Rattle.commands.specs.declared.Moved.the-variants.{Not, To}
 use Rattle.commands.specs.declared.Ran.{Ran}

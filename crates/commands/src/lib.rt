@@ -1,4 +1,10 @@
 // The handling of a command: the statements of its action clause are run, once to count the bytes and once to write them.
+use accepted::held::ACTIONS;
+use accepted::held::GUARDS;
+use accepted::held::STATEMENTS;
+use accepted::readers::body_of;
+use accepted::readers::clauses_of;
+use bodies::clauses::ACTION_CLAUSES;
 use bodies::clauses::action_command;
 use bodies::kinds::Pattern;
 use bodies::kinds::class_at;
@@ -9,12 +15,6 @@ use bodies::statements::statements_of;
 use bodies::words::byte_at;
 use bodies::words::narrow_at;
 use bodies::words::u16_at;
-use judged::held::ACTION_CLAUSES;
-use judged::held::ACTIONS;
-use judged::held::GUARDS;
-use judged::held::STATEMENTS;
-use judged::readers::body_of;
-use judged::readers::clauses_of;
 use model::ChildClass;
 use model::OwnState;
 use node::values::guard_true;
@@ -26,9 +26,9 @@ ghost use lib.ListN.{length, set};
 ghost use lib.Seq.{sets};
 ghost use Rattle.bodies.specs.Bytes.{u16};
 ghost use Rattle.bodies.specs.Patterns.{pattern-as};
-ghost use Rattle.sheet.specs.Judgement.{Stands};
-ghost use Rattle.sheet.specs.ChildList.{children-of};
-ghost use Rattle.node.specs.Probing.{Crewed};
+ghost use Rattle.sheet.specs.Verdict.{Stands};
+ghost use Rattle.children.specs.ChildList.{children-of};
+ghost use Rattle.children.specs.NameSets.{Crewed};
 ghost use Rattle.commands.specs.Commands.{concerned, SendsAll, Room, RunsPart, RunsIf, first-action-for, Handles};
 
 // Whether a move_to ended the clause, and where it leads.
@@ -166,7 +166,7 @@ fn clause_for(sheet: &[u8], p: Places, q: OwnState, command: u8) -> usize
         if i == n {
             break n;
         }
-        if action_command(actions, first + i) == (command as usize) {
+        if action_command(actions, first + i) == command {
             break i;
         }
         i = i + 1;

@@ -16,7 +16,7 @@ use Rattle.model.specs.Sound.{Sound}
 use Rattle.model.proofs.Words.{clash, true-not-false, and-left, and-right, and-both, least-some, least-none, greatest-above, greatest-at}
 use Rattle.model.proofs.Moves.{after-within, never-if-returns, decided}
 use Rattle.model.proofs.Occupancy.{next-same}
-use Rattle.model.proofs.Phase.{next-within, phase-settled, phase-loops}
+use Rattle.model.proofs.NodeLaws.{next-within, phase-settled, phase-loops}
 use Rattle.configurations.specs.Configurations.{name-count, list-of}
 use Rattle.configurations.specs.LoopAnswer.{free, returning, counts, has-loop, longest, longest-in, loop-in, loop-answer}
 use Rattle.configurations.specs.Demand.{FreeRight, LoopRight, Demanded}

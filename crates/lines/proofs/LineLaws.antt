@@ -8,11 +8,11 @@ use lib.ListN.{length}
 use Rattle.model.specs.Refusals.{number-of}
 use Rattle.model.specs.declared.Refusal.{Refusal}
 use Rattle.model.specs.declared.Refusal.the-variants.{SheetLength, Contents, EmptyNameSet, ClauseCounts, GuardLayout, GuardReach, Target, ActionClause, Statement, ChildList, AskedState, AskedCommand, PresentBit, NameCount, Room}
-use Rattle.bodies.specs.Referrers.{reads-as}
-use Rattle.bodies.specs.declared.clauses.Referrer.{Referrer}
-use Rattle.node.specs.Probing.{ending-as}
-use Rattle.node.specs.declared.probing.Ending.{Ending}
-use Rattle.bargewicker.specs.Numbers.{referrer-numbers, settled-numbers}
+use Rattle.model.specs.Answers.{referrer-as}
+use Rattle.model.specs.declared.Referrer.{Referrer}
+use Rattle.model.specs.Answers.{ending-as}
+use Rattle.model.specs.declared.Ending.{Ending}
+use Rattle.bargewicker.specs.Numbers.{referrer-values, settled-values}
 use Rattle.texts.specs.Texts.{Appended, hex-text}
 use Rattle.lines.specs.Lines.{refused-word, clause-word, said, string-field, text-of, phase-text}
 
@@ -35,12 +35,12 @@ told-refused words l m end ns x e a =
 pub told-number : (word l m : List ℕ) (end x y : ℕ) → x ≡ y → Appended l m 0 (said word (x ∷ [])) end → Appended l m 0 (said word (y ∷ [])) end
 told-number word l m end x y e a = rw e at a
 
-pub told-clause : (l m : List ℕ) (end i : ℕ) (r s : Referrer) → r ≡ s → Appended l m 0 (said clause-word (i ∷ referrer-numbers (reads-as s))) end
-    → Appended l m 0 (said clause-word (i ∷ referrer-numbers (reads-as r))) end
+pub told-clause : (l m : List ℕ) (end i : ℕ) (r s : Referrer) → r ≡ s → Appended l m 0 (said clause-word (i ∷ referrer-values (referrer-as s))) end
+    → Appended l m 0 (said clause-word (i ∷ referrer-values (referrer-as r))) end
 told-clause l m end i r s e a = rw e a
 
-pub told-ending : (l m : List ℕ) (end q n : ℕ) (d e : Ending) → d ≡ e → Appended l m 0 (phase-text (0 ∷ settled-numbers (ending-as e) q n)) end
-    → Appended l m 0 (phase-text (0 ∷ settled-numbers (ending-as d) q n)) end
+pub told-ending : (l m : List ℕ) (end q n : ℕ) (d e : Ending) → d ≡ e → Appended l m 0 (phase-text (0 ∷ settled-values (ending-as e) q n)) end
+    → Appended l m 0 (phase-text (0 ∷ settled-values (ending-as d) q n)) end
 told-ending l m end q n d e f a = rw f a
 
 -- a string with no bytes, and one with some

@@ -1,25 +1,25 @@
 // The lines of the answers, each written from the buffer's front on; what is answered is the place behind it. What does not fit is cut
 // off at the buffer's end.
 use bargewicker::CommandAnswer;
-use bargewicker::Judgement;
+use bargewicker::JudgeAnswer;
 use bargewicker::LoopAnswer;
 use bargewicker::PhaseAnswer;
 use bargewicker::ProbeAnswer;
 use bargewicker::refusal_number;
-use bodies::clauses::Referrer;
+use model::Ending;
 use model::OwnState;
+use model::Referrer;
 use model::Refusal;
-use node::probing::Ending;
 use texts::writing::append_byte;
 use texts::writing::append_bytes;
 use texts::writing::append_hex;
 use texts::writing::append_number;
 ghost use mathlib.Core.List.{[], _∷_};
 ghost use Rattle.model.specs.Refusals.{number-of};
-ghost use Rattle.bodies.specs.Referrers.{reads-as};
-ghost use Rattle.node.specs.Probing.{ending-as};
-ghost use Rattle.bargewicker.specs.Numbers.{referrer-numbers, settled-numbers};
-ghost use Rattle.bargewicker.specs.Answers.{judgement-numbers, probe-numbers, phase-answer-numbers, command-numbers, loop-answer-numbers};
+ghost use Rattle.model.specs.Answers.{referrer-as};
+ghost use Rattle.model.specs.Answers.{ending-as};
+ghost use Rattle.bargewicker.specs.Numbers.{referrer-values, settled-values};
+ghost use Rattle.bargewicker.specs.Answers.{judge-numbers, probe-numbers, phase-numbers, command-numbers, loop-numbers};
 ghost use Rattle.texts.specs.Texts.{Appended};
 ghost use Rattle.lines.specs.Lines.{bad-line, clause-word, refused-word, string-field, said, judge-text, probe-text, phase-text, command-text, loop-text, command-line, loop-line};
 
@@ -73,18 +73,18 @@ fn append_string(out: &mut [u8], at: usize, bytes: &[u8]) -> usize
 }
 
 // accepted
-pub fn judge_line(answer: Judgement, out: &mut [u8]) -> usize
-    ensures { λ r. ⌜ Appended (now (out .entry)) (now (out .exit)) 0 (judge-text (judgement-numbers answer)) r ⌝ }
+pub fn judge_line(answer: JudgeAnswer, out: &mut [u8]) -> usize
+    ensures { λ r. ⌜ Appended (now (out .entry)) (now (out .exit)) 0 (judge-text (judge-numbers answer)) r ⌝ }
 {
     match answer {
-        Judgement::Accepted => append_bytes(out, 0, b"accepted"),
-        Judgement::Refused(x) => refused(x, out),
+        JudgeAnswer::Accepted => append_bytes(out, 0, b"accepted"),
+        JudgeAnswer::Refused(x) => refused(x, out),
     }
 }
 
 // clause NUMBER REFERRER TARGET
 fn clause_line(i: usize, referrer: Referrer, out: &mut [u8]) -> usize
-    ensures { λ r. ⌜ Appended (now (out .entry)) (now (out .exit)) 0 (said clause-word (i ∷ referrer-numbers (reads-as referrer))) r ⌝ }
+    ensures { λ r. ⌜ Appended (now (out .entry)) (now (out .exit)) 0 (said clause-word (i ∷ referrer-values (referrer-as referrer))) r ⌝ }
 {
     match referrer {
         Referrer::MoveTo(q) => say_three(b"clause", i as u64, 0, q.0 as u64, out),
@@ -106,7 +106,7 @@ pub fn probe_line(answer: ProbeAnswer, out: &mut [u8]) -> usize
 
 // none STATE MOVES, stay STATE MOVES, or do STATE MOVES COMMAND
 fn settled_line(ending: Ending, q: OwnState, moves: usize, out: &mut [u8]) -> usize
-    ensures { λ r. ⌜ Appended (now (out .entry)) (now (out .exit)) 0 (phase-text (0 ∷ settled-numbers (ending-as ending) (q .0) moves)) r ⌝ }
+    ensures { λ r. ⌜ Appended (now (out .entry)) (now (out .exit)) 0 (phase-text (0 ∷ settled-values (ending-as ending) (q .0) moves)) r ⌝ }
 {
     match ending {
         Ending::ByNone => say_two(b"none", q.0 as u64, moves as u64, out),
@@ -117,7 +117,7 @@ fn settled_line(ending: Ending, q: OwnState, moves: usize, out: &mut [u8]) -> us
 
 // The same, or loop STATE MOVES
 pub fn phase_line(answer: PhaseAnswer, out: &mut [u8]) -> usize
-    ensures { λ r. ⌜ Appended (now (out .entry)) (now (out .exit)) 0 (phase-text (phase-answer-numbers answer)) r ⌝ }
+    ensures { λ r. ⌜ Appended (now (out .entry)) (now (out .exit)) 0 (phase-text (phase-numbers answer)) r ⌝ }
 {
     match answer {
         PhaseAnswer::Refused(x) => refused(x, out),
@@ -147,7 +147,7 @@ pub fn command_line(answer: CommandAnswer, lent: &[u8], out: &mut [u8]) -> usize
 
 // loop CONFIGURATION STATE, or free MOVES
 fn looping_line(answer: LoopAnswer, out: &mut [u8]) -> usize
-    ensures { λ r. ⌜ Appended (now (out .entry)) (now (out .exit)) 0 (loop-text (loop-answer-numbers answer)) r ⌝ }
+    ensures { λ r. ⌜ Appended (now (out .entry)) (now (out .exit)) 0 (loop-text (loop-numbers answer)) r ⌝ }
 {
     match answer {
         LoopAnswer::Refused(x) => refused(x, out),
@@ -158,7 +158,7 @@ fn looping_line(answer: LoopAnswer, out: &mut [u8]) -> usize
 
 // The same, and the whole buffer
 pub fn loop_line(answer: LoopAnswer, lent: &[u8], out: &mut [u8]) -> usize
-    ensures { λ r. ⌜ Appended (now (out .entry)) (now (out .exit)) 0 (loop-line (loop-answer-numbers answer) (now (lent .entry))) r ⌝ }
+    ensures { λ r. ⌜ Appended (now (out .entry)) (now (out .exit)) 0 (loop-line (loop-numbers answer) (now (lent .entry))) r ⌝ }
 {
     let end = looping_line(answer, out);
     append_string(out, end, lent)

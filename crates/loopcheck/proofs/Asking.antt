@@ -12,9 +12,9 @@ use Rattle.model.proofs.Lists.{length-listed}
 use Rattle.sheet.specs.Contents.{bodies, body}
 use Rattle.bodies.specs.Clauses.{in-fours, name-set}
 use Rattle.sheet.specs.Reading.{class-in, class-of}
-use Rattle.sheet.specs.Judgement.{judged-numbers, judgement}
-use Rattle.sheet.specs.declared.judging.Judged.{Judged}
-use Rattle.sheet.specs.declared.judging.Judged.the-variants.{Refused}
+use Rattle.sheet.specs.Verdict.{verdict-numbers, verdict}
+use Rattle.sheet.specs.declared.judging.Verdict.{Verdict}
+use Rattle.sheet.specs.declared.judging.Verdict.the-variants.{Refused}
 use Rattle.bargewicker.specs.Questions.{loop-with, reply, reply-loop}
 use Rattle.bargewicker.specs.Numbers.{Answered}
 use Rattle.bargewicker.proofs.AskedLaws.{refused-too}
@@ -29,7 +29,7 @@ low-bits k h =
     (ap (λ (x : ℕ). x % 2 ^ 16) e ∙ mod-eq-of-lt (omega arith), pow-pos k, omega arith)
 
 -- a refused sheet is refused with all classes present too
-pub refused-told : (b list : List ℕ) (r : Judged) (x : Refusal) → judged-numbers r ≡ judgement b → r ≡ Refused x
+pub refused-told : (b list : List ℕ) (r : Verdict) (x : Refusal) → verdict-numbers r ≡ verdict b → r ≡ Refused x
     → Answered (loop-with b (all-present b) list) (number-of x ∷ []) list
 unfolding reply
 refused-told b list r x e a = answered-refused (loop-with b (all-present b) list) (number-of x) (refused-too b r e x a (λ c. reply-loop c (all-present b) list)) list refl

@@ -9,7 +9,7 @@ use lib.Dec.{ltb}
 use lib.ListN.{length, drop, getD, length-append, length-drop}
 use lib.Seq.{drop-cons, length-sets}
 use Rattle.model.specs.Tree.{Child}
-use Rattle.sheet.specs.ChildList.{children-of}
+use Rattle.children.specs.ChildList.{children-of}
 use Rattle.texts.specs.Texts.{Appended, decimal-of, decimal-text, number-text}
 use Rattle.texts.proofs.Appending.{appended-then}
 use Rattle.loopcheck.specs.Line.{line-end, loop-word, child-field, child-fields, refused-line, free-line, loop-line}

@@ -15,12 +15,13 @@ use Rattle.model.specs.declared.Refusal.{Refusal}
 use Rattle.model.specs.declared.OwnState.{OwnState}
 use Rattle.model.proofs.Lists.{length-listed}
 use Rattle.sheet.specs.Reading.{class-of}
-use Rattle.sheet.specs.ChildList.{children-of, pairs, written}
+use Rattle.children.specs.ChildList.{children-of, pairs}
+use Rattle.model.specs.Replies.{written}
 use Rattle.configurations.specs.Configurations.{cells, list-of}
 use Rattle.configurations.specs.LoopAnswer.{loop, free}
-use Rattle.bargewicker.specs.Questions.{looped, Reply, refuse, give, loop-with, reply, judged, reply-loop, buffer-after}
+use Rattle.bargewicker.specs.Questions.{looped, Reply, refuse, give, loop-with, reply, on-sheet, reply-loop, buffer-after}
 use Rattle.bargewicker.specs.Numbers.{numbers, Answered}
-use Rattle.bargewicker.specs.Answers.{loop-answer-numbers}
+use Rattle.bargewicker.specs.Answers.{loop-numbers}
 use Rattle.bargewicker.specs.declared.LoopAnswer.{LoopAnswer}
 use Rattle.bargewicker.specs.declared.LoopAnswer.the-variants.{Refused, Loop, Free}
 use Rattle.texts.specs.Texts.{Appended}
@@ -56,17 +57,17 @@ module _ (b : List ℕ) (present : ℕ) (r : Reply) (k q : ℕ) (l : Looped b pr
   list-most = omega (arith, chosen-most (cells (class-of b) present) k, l .few)
 
 -- so the answer's configuration has at most 20 set bits
-pub loop-few : (b list after : List ℕ) (a : LoopAnswer) (k : ℕ) (q : OwnState) → Answered (loop-with b (all-present b) list) (loop-answer-numbers a) after
+pub loop-few : (b list after : List ℕ) (a : LoopAnswer) (k : ℕ) (q : OwnState) → Answered (loop-with b (all-present b) list) (loop-numbers a) after
     → a ≡ Loop k q → ones k ≤ 20
 loop-few b list after a k q h e =
     let r : Reply = reply (loop-with b (all-present b) list) in
-    let told : 0 ∷ 1 ∷ k ∷ q .0 ∷ [] ≡ numbers r = ap loop-answer-numbers (sym e) ∙ h .numbers-are in
+    let told : 0 ∷ 1 ∷ k ∷ q .0 ∷ [] ≡ numbers r = ap loop-numbers (sym e) ∙ h .numbers-are in
     let found : Looped b (all-present b) r k (q .0) = told-loop b (all-present b) r k (q .0) (replied b (all-present b) list) told in
     omega (arith, list-length b (all-present b) r k (q .0) found, list-most b (all-present b) r k (q .0) found)
 
 -- of a lent buffer only the length counts
 same-reply : (b : List ℕ) (present : ℕ) (l m : List ℕ) → length l ≡ length m → reply (loop-with b present l) ≡ reply (loop-with b present m)
-unfolding reply judged reply-loop
+unfolding reply on-sheet reply-loop
 same-reply b present l m e = rw e
 
 asked : (b l : List ℕ) → length l ≡ 40 → reply (loop-with b (all-present b) l) ≡ loop-reply b
@@ -105,22 +106,22 @@ module _ (b list after l m : List ℕ) (r : ℕ) (room : length list ≡ 40) (si
   unfolding line
   line-of x e = ap reply-line (sym e ∙ asked b list room)
 
-  pub refused-printed : (a : LoopAnswer) (x : Refusal) (n : ℕ) → Answered (loop-with b (all-present b) list) (loop-answer-numbers a) after
+  pub refused-printed : (a : LoopAnswer) (x : Refusal) (n : ℕ) → Answered (loop-with b (all-present b) list) (loop-numbers a) after
       → a ≡ Refused x → n ≡ number-of x → Appended l m 0 (refused-line n) r → Printed b l m r
   refused-printed a x n h e f =
-      let told : n ∷ [] ≡ numbers now-asked = ap (λ (y : ℕ). y ∷ []) f ∙ ap loop-answer-numbers (sym e) ∙ h .numbers-are in
+      let told : n ∷ [] ≡ numbers now-asked = ap (λ (y : ℕ). y ∷ []) f ∙ ap loop-numbers (sym e) ∙ h .numbers-are in
       printed b l m (refused-line n) r size (line-of (refuse n) (told-refused b (all-present b) now-asked n (replied b (all-present b) list) told))
 
-  pub free-printed : (a : LoopAnswer) (x : ℕ) → Answered (loop-with b (all-present b) list) (loop-answer-numbers a) after
+  pub free-printed : (a : LoopAnswer) (x : ℕ) → Answered (loop-with b (all-present b) list) (loop-numbers a) after
       → a ≡ Free x → Appended l m 0 (free-line x) r → Printed b l m r
   free-printed a x h e =
-      let told : 0 ∷ 0 ∷ x ∷ [] ≡ numbers now-asked = ap loop-answer-numbers (sym e) ∙ h .numbers-are in
+      let told : 0 ∷ 0 ∷ x ∷ [] ≡ numbers now-asked = ap loop-numbers (sym e) ∙ h .numbers-are in
       printed b l m (free-line x) r size (line-of (give (looped (free x)) []) (told-free b (all-present b) now-asked x (replied b (all-present b) list) told))
 
-  pub loop-printed : (a : LoopAnswer) (k : ℕ) (q : OwnState) → Answered (loop-with b (all-present b) list) (loop-answer-numbers a) after
+  pub loop-printed : (a : LoopAnswer) (k : ℕ) (q : OwnState) → Answered (loop-with b (all-present b) list) (loop-numbers a) after
       → a ≡ Loop k q → Appended l m 0 (loop-line k (q .0) (children-of (take (2 * ones k) after))) r → Printed b l m r
   loop-printed a k q h e t =
-      let told : 0 ∷ 1 ∷ k ∷ q .0 ∷ [] ≡ numbers now-asked = ap loop-answer-numbers (sym e) ∙ h .numbers-are in
+      let told : 0 ∷ 1 ∷ k ∷ q .0 ∷ [] ≡ numbers now-asked = ap loop-numbers (sym e) ∙ h .numbers-are in
       let found : Looped b (all-present b) now-asked k (q .0) = told-loop b (all-present b) now-asked k (q .0) (replied b (all-present b) list) told in
       let ks : List Child = list-of (class-of b) (all-present b) k in
       let f : after ≡ written (pairs ks) list = h .buffer-is ∙ ap (λ (x : Reply). buffer-after x list) (found .given) in

@@ -17,10 +17,10 @@ use Rattle.model.specs.Tree.{Child, Class}
 use Rattle.model.proofs.Words.{clash, least-some}
 use Rattle.sheet.specs.Rules.{refusal}
 use Rattle.sheet.specs.Reading.{class-of}
-use Rattle.sheet.specs.ChildList.{pairs}
+use Rattle.children.specs.ChildList.{pairs}
 use Rattle.configurations.specs.Configurations.{name-count, chosen, list-of}
 use Rattle.configurations.specs.LoopAnswer.{Loops, loop, free, returning, has-loop, longest-in, loop-in, loop-answer}
-use Rattle.bargewicker.specs.Questions.{looped, Reply, refuse, give, check, loop-with, reply, judged, reply-loop, present-right, bytes-of-loops}
+use Rattle.bargewicker.specs.Questions.{looped, Reply, refuse, give, check, loop-with, reply, on-sheet, reply-loop, present-right, bytes-of-loops}
 use Rattle.bargewicker.specs.Numbers.{numbers, values}
 
 -- the reply is a loop: its configuration is one of at most 20 names
@@ -56,7 +56,7 @@ module _ (b : List ℕ) (present : ℕ) where
           inr (inr (k, maybe (returning c (list-of c present k)) (λ _. 0) (λ q. q), record { given = refl; low = least-some (2 ^ N) (has-loop c present) k e .0; few = few }))
 
   pub replied : (out : List ℕ) → Replied b present (reply (loop-with b present out))
-  unfolding reply judged reply-loop
+  unfolding reply on-sheet reply-loop
   replied out = go (eqb (refusal b) 0) (present-right c present) (leb N 20) (leb (2 * N) (length out)) refl
     where
       go : (x y z w : Bool) → leb N 20 ≡ z

@@ -1,10 +1,10 @@
 // The line that loopcheck prints of a sheet, written into a lent buffer. What it is, is in specs/Line.antt.
+use accepted::readers::class_count;
 use bargewicker::LoopAnswer;
 use bargewicker::loop_question;
 use bargewicker::refusal_number;
-use judged::readers::class_count;
 use model::OwnState;
-use sheet::judging::Judged;
+use sheet::judging::Verdict;
 use sheet::judging::judge;
 use texts::writing::append_byte;
 use texts::writing::append_bytes;
@@ -12,10 +12,10 @@ use texts::writing::append_decimal;
 use texts::writing::append_number;
 ghost use mathlib.Core.Path.{_≡_};
 ghost use Prim.Native.Nat.{_-_, _^_, _≤_};
-ghost use Rattle.sheet.specs.ChildList.{children-of};
+ghost use Rattle.children.specs.ChildList.{children-of};
 ghost use Rattle.bargewicker.specs.Questions.{loop-with};
 ghost use Rattle.bargewicker.specs.Numbers.{Answered};
-ghost use Rattle.bargewicker.specs.Answers.{loop-answer-numbers};
+ghost use Rattle.bargewicker.specs.Answers.{loop-numbers};
 ghost use Rattle.texts.specs.Texts.{Appended};
 ghost use Rattle.loopcheck.specs.Line.{child-field, child-fields, refused-line, free-line, loop-line, all-present, Printed};
 
@@ -84,12 +84,12 @@ fn all_classes(k: usize) -> u8
 
 // The loop question with all K classes present.
 fn ask(sheet: &[u8], list: &mut [u8]) -> LoopAnswer
-    ensures { λ r. ⌜ Answered (loop-with (now (sheet .entry)) (all-present (now (sheet .entry))) (now (list .entry))) (loop-answer-numbers r) (now (list .exit)) ⌝ }
+    ensures { λ r. ⌜ Answered (loop-with (now (sheet .entry)) (all-present (now (sheet .entry))) (now (list .entry))) (loop-numbers r) (now (list .exit)) ⌝ }
 {
-    let judged = judge(sheet);
-    match judged {
-        Judged::Accepted(p) => loop_question(sheet, all_classes(class_count(sheet, p)), list),
-        Judged::Refused(x) => LoopAnswer::Refused(x),
+    let verdict = judge(sheet);
+    match verdict {
+        Verdict::Accepted(p) => loop_question(sheet, all_classes(class_count(sheet, p)), list),
+        Verdict::Refused(x) => LoopAnswer::Refused(x),
     }
 }
 

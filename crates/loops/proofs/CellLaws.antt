@@ -15,7 +15,7 @@ use Rattle.model.specs.Words.{has, kept, keep, listed}
 use Rattle.model.specs.Tree.{Child}
 use Rattle.model.proofs.Lists.{listed-more, keep-append, listed-same}
 use Rattle.bodies.specs.Clauses.{in-fours, name-set}
-use Rattle.node.proofs.CrewLaws.{shifted}
+use Rattle.children.proofs.CrewLaws.{shifted}
 use Rattle.configurations.specs.Configurations.{cell}
 use Rattle.loops.specs.Cells.{cell-present, held, present-among, CellsAre}
 

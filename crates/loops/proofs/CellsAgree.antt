@@ -19,13 +19,13 @@ use Rattle.model.proofs.Occupancy.{mem-occupied, occupied-mem}
 use Rattle.sheet.specs.Contents.{body, bodies}
 use Rattle.bodies.specs.Clauses.{in-fours, name-set}
 use Rattle.sheet.specs.Reading.{class-of}
-use Rattle.sheet.specs.Judgement.{Stands}
+use Rattle.sheet.specs.Verdict.{Stands}
 use Rattle.sheet.specs.declared.judging.Places.{Places}
-use Rattle.bodies.proofs.Bits.{has-none, some-bit}
+use Rattle.model.proofs.Bits.{has-none, some-bit}
 use Rattle.sheet.proofs.Contents.{counted}
 use Rattle.sheet.proofs.Reading.{child-classes-in, name-set-in}
-use Rattle.judged.proofs.ReaderLaws.{stands-right}
-use Rattle.node.specs.Sets.{Small}
+use Rattle.accepted.proofs.ReaderLaws.{stands-right}
+use Rattle.children.specs.NameSets.{Small}
 use Rattle.configurations.specs.Configurations.{cell, cells}
 use Rattle.loops.specs.Cells.{cell-present, present-among, present-cells, Spreads, counts-on}
 use Rattle.loops.proofs.CellLaws.{cell-past}

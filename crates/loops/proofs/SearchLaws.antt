@@ -21,14 +21,15 @@ use Rattle.model.specs.Crews.{child-classes}
 use Rattle.model.proofs.Lists.{length-listed, listed-more}
 use Rattle.sheet.specs.Contents.{body}
 use Rattle.bodies.specs.Clauses.{in-fours}
-use Rattle.sheet.specs.ChildList.{pairs, written}
+use Rattle.children.specs.ChildList.{pairs}
+use Rattle.model.specs.Replies.{written}
 use Rattle.sheet.specs.Reading.{class-of}
-use Rattle.sheet.specs.Judgement.{Stands}
+use Rattle.sheet.specs.Verdict.{Stands}
 use Rattle.sheet.specs.declared.judging.Places.{Places}
-use Rattle.bodies.proofs.Bits.{has-half}
-use Rattle.node.specs.Sets.{Small}
-use Rattle.node.proofs.BitLaws.{has-zero}
-use Rattle.node.proofs.CrewLaws.{shifted}
+use Rattle.model.proofs.Bits.{has-half}
+use Rattle.children.specs.NameSets.{Small}
+use Rattle.model.proofs.Masks.{has-zero}
+use Rattle.children.proofs.CrewLaws.{shifted}
 use Rattle.configurations.specs.Configurations.{cells, name-count, chosen, list-of}
 use Rattle.configurations.specs.LoopAnswer.{free, returning, counts, has-loop, longest, longest-in, loop-answer}
 use Rattle.loops.specs.Cells.{held, CellsAre, Spreads, counts-on}

@@ -17,9 +17,9 @@ use Rattle.model.specs.Tree.{Child}
 use Rattle.model.specs.Crews.{occupied}
 use Rattle.model.proofs.Lists.{length-listed, getD-listed}
 use Rattle.model.proofs.Words.{each-broken, each-so-far, each-all, true-not-false}
-use Rattle.bodies.proofs.Bits.{has-none}
-use Rattle.node.specs.Sets.{Shows}
-use Rattle.node.proofs.CrewLaws.{shifted, shows-more}
+use Rattle.model.proofs.Bits.{has-none}
+use Rattle.children.specs.NameSets.{Shows}
+use Rattle.children.proofs.CrewLaws.{shifted, shows-more}
 use Rattle.configurations.specs.Configurations.{chosen}
 use Rattle.loops.specs.Cells.{held, Spreads, counts-on}
 use Rattle.loops.proofs.CellLaws.{set-small, zeros-small}

@@ -13,19 +13,21 @@ use Rattle.model.specs.Tree.{Child, When, State}
 use Rattle.model.specs.Node.{own-states, first-true, probe, turn-for, Turn, stops, moves, turn, moved, next, settled, by-turn, walk, phase, moves-of}
 use Rattle.model.specs.declared.OwnState.{OwnState}
 use Rattle.model.proofs.Words.{lt-or-le}
-use Rattle.model.proofs.Phase.{stops-next, moves-next, next-within}
+use Rattle.model.proofs.NodeLaws.{stops-next, moves-next, next-within}
 use Rattle.bodies.specs.Bytes.{Bytes}
 use Rattle.sheet.specs.Contents.{body, bodies}
 use Rattle.bodies.specs.Clauses.{in-fours}
 use Rattle.sheet.specs.Reading.{class-of}
-use Rattle.sheet.specs.Judgement.{Stands}
+use Rattle.sheet.specs.Verdict.{Stands}
 use Rattle.sheet.specs.declared.judging.Places.{Places}
 use Rattle.sheet.proofs.Contents.{counted}
 use Rattle.sheet.proofs.Reading.{own-states-in, state-of-past}
-use Rattle.judged.proofs.ReaderLaws.{stands-right}
+use Rattle.accepted.proofs.ReaderLaws.{stands-right}
 use Rattle.sheet.proofs.Sound.{sound}
-use Rattle.node.specs.Probing.{Crewed, ending-as, turn-as, Turns}
-use Rattle.node.specs.declared.probing.Ending.{Ending}
+use Rattle.node.specs.Probing.{turn-as, Turns}
+use Rattle.model.specs.Answers.{ending-as}
+use Rattle.children.specs.NameSets.{Crewed}
+use Rattle.model.specs.declared.Ending.{Ending}
 use Rattle.node.specs.declared.probing.Turn.{Turn as Taken}
 use Rattle.node.specs.declared.probing.Turn.the-variants.{Stops, Moves}
 use Rattle.loops.specs.Chase.{leads, table-next, MovesTo, Tabulates, move-count}

@@ -9,7 +9,7 @@ use lib.ListN.{length, getD}
 use Rattle.model.specs.Words.{has, each, keep, listed}
 use Rattle.model.specs.Tree.{Child}
 use Rattle.bodies.specs.Clauses.{in-fours, name-set}
-use Rattle.node.specs.Sets.{Shows}
+use Rattle.children.specs.NameSets.{Shows}
 use Rattle.configurations.specs.Configurations.{cell}
 use Rattle.loops.specs.declared.cells.Cells.{Cells}
 

@@ -12,7 +12,7 @@ use Rattle.model.specs.Tree.{Child}
 use Rattle.model.specs.Moves.{Next, returns-soon}
 use Rattle.model.specs.Node.{next}
 use Rattle.sheet.specs.Reading.{class-of}
-use Rattle.node.specs.Probing.{Crewed}
+use Rattle.children.specs.NameSets.{Crewed}
 use Rattle.loops.specs.declared.chase.Table.{Table}
 use Rattle.loops.specs.declared.chase.Walk.{Walk}
 use Rattle.loops.specs.declared.chase.Walk.the-variants.{Returns, Makes}

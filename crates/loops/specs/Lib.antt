@@ -1,3 +1,4 @@
 pub mod Cells
 pub mod Chase
 pub mod Search
+pub mod LoopQuestion

@@ -1,12 +1,12 @@
 // One configuration: each state is probed once, and the graph of moves is chased from every state.
-use judged::readers::state_count;
+use accepted::readers::state_count;
 use model::OwnState;
 use node::probing::Turn;
 use node::probing::turn_from;
 use sheet::judging::Places;
 ghost use mathlib.Core.Path.{_≡_};
 ghost use Prim.Native.Nat.{_<_, _≤_};
-ghost use Rattle.sheet.specs.Judgement.{Stands};
+ghost use Rattle.sheet.specs.Verdict.{Stands};
 ghost use Rattle.loops.specs.Chase.{MovesTo, Tabulates, WalkIs, Chased};
 
 // Where each state's next move leads; 255 where it makes none.

@@ -1,8 +1,12 @@
 pub mod Computing
 pub mod Words
+pub mod Bits
+pub mod Masks
 pub mod Lists
 pub mod Moves
 pub mod Occupancy
-pub mod Phase
+pub mod NodeLaws
 pub mod Errors
-pub mod Refusals
+pub mod RefusalLaws
+pub mod AnswerLaws
+pub mod Unique

@@ -7,3 +7,7 @@ pub mod Commands
 pub mod Crews
 pub mod Sound
 pub mod Refusals
+pub mod Values
+pub mod Answers
+pub mod Replies
+pub mod Unique

@@ -1,5 +1,7 @@
 // The model: what a class, a child list, a probe, a when phase and a command mean. Definitions are in specs/, their theory in proofs/.
-// Here stand the three kinds of number that are never taken for one another, and the refusals.
+// Here stand the three kinds of number that are never taken for one another, the refusals, and the answers to the questions.
+ghost use mathlib.Core.Path.{_≡_};
+ghost use Rattle.model.specs.Refusals.{number-of};
 
 // One of a node's own states, 0 to S - 1.
 pub struct OwnState(pub u8);
@@ -27,4 +29,91 @@ pub enum Refusal {
     PresentBit,
     NameCount,
     Room,
+}
+
+// A when clause's referrer with its target: an own state, an action clause's number within the state, none.
+pub enum Referrer {
+    MoveTo(OwnState),
+    Do(u8),
+    Stay,
+}
+
+// What a probe finds: no clause, or a clause's number within the state with its referrer and target.
+pub enum Probed {
+    Nothing,
+    Found(usize, Referrer),
+}
+
+// By what a phase settles: no clause, STAY, or DO with the command of its action clause.
+pub enum Ending {
+    ByNone,
+    ByStay,
+    ByDo(u8),
+}
+
+// A when phase: settled by what, in which state, after how many moves; or loop, the state after S moves, S.
+pub enum Phase {
+    Settled(Ending, OwnState, usize),
+    Loops(OwnState, usize),
+}
+
+// The handling of a command: the state, and how many bytes were written.
+pub enum Handling {
+    Ignored(OwnState),
+    Handled(OwnState, usize),
+}
+
+// What a class does: a loop, with its configuration and own state; or none, and the largest number of moves.
+pub enum Loops {
+    Loop(u32, OwnState),
+    Free(usize),
+}
+
+// The answers to the five questions: refused, or what is given.
+pub enum JudgeAnswer {
+    Refused(Refusal),
+    Accepted,
+}
+
+pub enum ProbeAnswer {
+    Refused(Refusal),
+    Given(Probed),
+}
+
+pub enum PhaseAnswer {
+    Refused(Refusal),
+    Given(Phase),
+}
+
+pub enum CommandAnswer {
+    Refused(Refusal),
+    Given(Handling),
+}
+
+pub enum LoopAnswer {
+    Refused(Refusal),
+    Given(Loops),
+}
+
+// The number of a refusal in the paper's table.
+pub fn refusal_number(x: Refusal) -> u64
+    ensures { λ r. ⌜ r ≡ number-of x ⌝ }
+{
+    match x {
+        Refusal::SheetLength => 1,
+        Refusal::Contents => 2,
+        Refusal::EmptyNameSet => 3,
+        Refusal::ClauseCounts => 4,
+        Refusal::GuardLayout => 5,
+        Refusal::GuardReach => 6,
+        Refusal::Target => 7,
+        Refusal::ActionClause => 8,
+        Refusal::Statement => 9,
+        Refusal::ChildList => 10,
+        Refusal::AskedState => 11,
+        Refusal::AskedCommand => 12,
+        Refusal::PresentBit => 13,
+        Refusal::NameCount => 14,
+        Refusal::Room => 15,
+    }
 }

@@ -17,8 +17,9 @@ use Rattle.model.proofs.Occupancy.{mem-occupied, occupied-mem}
 use Rattle.sheet.specs.Contents.{Bodies}
 use Rattle.bodies.specs.GuardRecords.{Read, got, broken, by-read, guard-from}
 use Rattle.sheet.specs.Reading.{guard-in}
-use Rattle.bodies.proofs.Bits.{has-none}
-use Rattle.node.specs.Sets.{Shows, Small, seen, atom-in, holds-in}
+use Rattle.model.proofs.Bits.{has-none}
+use Rattle.node.specs.Sets.{atom-in, holds-in}
+use Rattle.children.specs.NameSets.{Shows, Small, seen}
 use Rattle.node.specs.Values.{truth-of}
 
 -- "not a, or b" is that b follows from a

@@ -10,8 +10,10 @@ use Rattle.sheet.specs.Contents.{body, bodies}
 use Rattle.bodies.specs.Clauses.{in-fours}
 use Rattle.sheet.specs.Reading.{class-of}
 use Rattle.sheet.proofs.Reading.{own-states-in}
-use Rattle.node.specs.Probing.{Crewed, ending-as, Turns}
-use Rattle.node.specs.declared.probing.Ending.{Ending}
+use Rattle.node.specs.Probing.{Turns}
+use Rattle.model.specs.Answers.{ending-as}
+use Rattle.children.specs.NameSets.{Crewed}
+use Rattle.model.specs.declared.Ending.{Ending}
 use Rattle.node.specs.declared.probing.Turn.{Turn}
 use Rattle.node.specs.declared.probing.Turn.the-variants.{Stops, Moves}
 

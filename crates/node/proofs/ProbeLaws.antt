@@ -13,29 +13,30 @@ use Rattle.model.specs.Guards.{holds}
 use Rattle.model.specs.Node.{state-of, nothing, found, first-true, probe, command-of, turn-for, turn}
 use Rattle.model.specs.Sound.{ReferrerRight}
 use Rattle.model.proofs.Words.{lt-or-le, below-next, least-some, least-none, least-found, least-not, least-told}
-use Rattle.model.proofs.Phase.{getD-mem, probe-found}
+use Rattle.model.proofs.NodeLaws.{getD-mem, probe-found}
 use Rattle.bodies.specs.Bytes.{byte}
 use Rattle.sheet.specs.Contents.{body, bodies}
 use Rattle.bodies.specs.Clauses.{in-fours, when-count, action-count, first-action, guard-place, referrer-number, target, action-command, referrer-of}
 use Rattle.bodies.specs.GuardRecords.{guard-from}
-use Rattle.sheet.specs.Judgement.{Stands}
+use Rattle.sheet.specs.Verdict.{Stands}
 use Rattle.sheet.specs.Reading.{when-in, action-in, state-in, class-in, class-of}
-use Rattle.bodies.specs.Referrers.{reads-as}
-use Rattle.judged.specs.Runs.{RunIs}
+use Rattle.model.specs.Answers.{referrer-as}
+use Rattle.accepted.specs.Runs.{RunIs}
 use Rattle.sheet.specs.declared.judging.Places.{Places}
-use Rattle.judged.specs.declared.held.Run.{Run}
-use Rattle.bodies.specs.declared.clauses.Referrer.the-variants.{MoveTo, Do, Stay}
-use Rattle.bodies.specs.declared.clauses.Referrer.{Referrer}
+use Rattle.accepted.specs.declared.readers.Run.{Run}
+use Rattle.model.specs.declared.Referrer.the-variants.{MoveTo, Do, Stay}
+use Rattle.model.specs.declared.Referrer.{Referrer}
 use Rattle.sheet.proofs.Contents.{counted}
-use Rattle.judged.proofs.ReaderLaws.{stands-right}
+use Rattle.accepted.proofs.ReaderLaws.{stands-right}
 use Rattle.sheet.proofs.Rules.{accepted-right}
 use Rattle.sheet.proofs.Reading.{state-of-in, state-of-past, actions-in, action-of-in, mem-whens}
 use Rattle.sheet.proofs.Sound.{referrers-in}
 use Rattle.node.specs.Values.{truth-of}
-use Rattle.node.specs.Probing.{clause-true, first-hit, Crewed, Probes, Turns}
-use Rattle.node.specs.declared.probing.Probed.{Probed}
-use Rattle.node.specs.declared.probing.Probed.the-variants.{Nothing, Found}
-use Rattle.node.specs.declared.probing.Ending.the-variants.{ByNone, ByStay, ByDo}
+use Rattle.node.specs.Probing.{clause-true, first-hit, Probes, Turns}
+use Rattle.children.specs.NameSets.{Crewed}
+use Rattle.model.specs.declared.Probed.{Probed}
+use Rattle.model.specs.declared.Probed.the-variants.{Nothing, Found}
+use Rattle.model.specs.declared.Ending.the-variants.{ByNone, ByStay, ByDo}
 use Rattle.node.specs.declared.probing.Turn.the-variants.{Stops, Moves}
 use Rattle.node.proofs.Agree.{truth-agree}
 
@@ -143,14 +144,14 @@ module _ (b : List ℕ) (p : Places) (stands : Stands b p) (q : ℕ) where
         go (inr l) = rw (state-of-past (bodies b) q l)
 
     pub probes-found : (k ≡ r .count → ⊥) → (whens : List ℕ) → whens ≡ body b 2 → (x : Referrer)
-        → reads-as x ≡ referrer-of (referrer-number whens (r .first + k)) (target whens (r .first + k)) → Probes b sets q (Found k x)
+        → referrer-as x ≡ referrer-of (referrer-number whens (r .first + k)) (target whens (r .first + k)) → Probes b sets q (Found k x)
     unfolding probe when-in bodies
     probes-found m whens e x f ks crewed = go (lt-or-le q (in-fours (body b 1)))
       where
         h : FirstTrue b sets (r .first) (r .count) k
         h = hit-some b sets (r .first) (r .count) k hit m
 
-        go : (q < in-fours (body b 1)) ⊎ (in-fours (body b 1) ≤ q) → found k (reads-as x) ≡ probe (class-of b) ks q
+        go : (q < in-fours (body b 1)) ⊎ (in-fours (body b 1) ≤ q) → found k (referrer-as x) ≡ probe (class-of b) ks q
         go (inl l) =
             rw (f, e, whens-listed l)
             (sym (found-listed ks (when-in (bodies b)) 0 (r .first) (r .count) k (r .first + k) k refl (omega arith) (h .inside)

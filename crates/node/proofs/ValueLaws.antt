@@ -15,10 +15,11 @@ use Rattle.model.proofs.Words.{clash}
 use Rattle.bodies.specs.Bytes.{byte, u32, record-at}
 use Rattle.bodies.specs.GuardRecords.{pattern-of, Read, got, broken, Shape, leaf, two, one, unknown, shape, shaped, guard-at, guard-from}
 use Rattle.bodies.proofs.GuardLaws.{kind-of, joins, shape-leaf, shape-two, shape-one, shape-unknown, operand, operand-none, operand-some, read-past, read-as}
-use Rattle.node.specs.Sets.{Names, atom-in, holds-in}
+use Rattle.node.specs.Sets.{atom-in, holds-in}
+use Rattle.children.specs.NameSets.{Names}
 use Rattle.node.specs.Values.{value-of, atom-value, truth-of, Operator}
 use Rattle.node.specs.declared.values.Value.the-variants.{Holds, Broken}
-use Rattle.node.proofs.BitLaws.{some-met, some-not-met, all-met, all-not-met}
+use Rattle.model.proofs.Masks.{some-met, some-not-met, all-met, all-not-met}
 
 -- an atom by mask: the names occupied in the pattern, met with the set
 module _ (sets : List ℕ) (k : ℕ) (p : Pattern) (set occ : ℕ) (small : occ < 2 ^ 32) (names : Names sets p occ) where

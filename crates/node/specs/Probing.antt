@@ -3,8 +3,7 @@
 use Prim.Native.Nat.{ℕ, _+_}
 use mathlib.Core.Path.{_≡_}
 use mathlib.Core.Bool.{Bool}
-use mathlib.Core.List.{List, List·Memᴰ}
-use lib.ListN.{length}
+use mathlib.Core.List.{List}
 use Rattle.model.specs.Words.{maybe, least}
 use Rattle.model.specs.Tree.{Child}
 use Rattle.model.specs.Node as Tree
@@ -12,13 +11,10 @@ use Rattle.sheet.specs.Contents.{body}
 use Rattle.bodies.specs.Clauses.{guard-place}
 use Rattle.bodies.specs.GuardRecords.{guard-from}
 use Rattle.sheet.specs.Reading.{class-of}
-use Rattle.bodies.specs.Referrers.{reads-as}
-use Rattle.node.specs.Sets.{Shows, Small}
+use Rattle.model.specs.Answers.{probed-as, ending-as}
+use Rattle.children.specs.NameSets.{Crewed}
 use Rattle.node.specs.Values.{truth-of}
-use Rattle.node.specs.declared.probing.Probed.{Probed}
-use Rattle.node.specs.declared.probing.Probed.the-variants.{Nothing, Found}
-use Rattle.node.specs.declared.probing.Ending.{Ending}
-use Rattle.node.specs.declared.probing.Ending.the-variants.{ByNone, ByStay, ByDo}
+use Rattle.model.specs.declared.Probed.{Probed}
 use Rattle.node.specs.declared.probing.Turn.{Turn}
 use Rattle.node.specs.declared.probing.Turn.the-variants.{Stops, Moves}
 
@@ -30,22 +26,7 @@ clause-true b sets w = truth-of sets (guard-from (body b 3) (guard-place (body b
 unfoldable pub first-hit : List ℕ → List ℕ → ℕ → ℕ → ℕ
 first-hit b sets first n = maybe (least n (λ i. clause-true b sets (first + i))) (λ _. n) (λ i. i)
 
--- eight sets show the children of a list, each of which is of a class below 8 with a name below 32
-pub record Crewed (sets : List ℕ) (ks : List Child) : Type 0 where
-  pub eight : length sets ≡ 8
-  pub shows : Shows sets ks
-  pub small : (k : Child) → List·Memᴰ k ks → Small k
-
--- the code's answers, as the tree has them
-abbrev pub probed-as : Probed → Tree.Probed
-probed-as Nothing = Tree.nothing
-probed-as (Found i r) = Tree.found i (reads-as r)
-
-abbrev pub ending-as : Ending → Tree.Ending
-ending-as ByNone = Tree.by-none
-ending-as ByStay = Tree.by-stay
-ending-as (ByDo c) = Tree.by-do c
-
+-- the code's turn, as the tree has it
 abbrev pub turn-as : Turn → Tree.Turn
 turn-as (Stops e) = Tree.stops (ending-as e)
 turn-as (Moves t) = Tree.moves (t .0)

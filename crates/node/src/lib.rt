@@ -1,6 +1,4 @@
 // The node: guards evaluated on one name set per class, the probe and the when phase on an accepted sheet.
-pub mod crews;
-pub mod lists;
 pub mod phases;
 pub mod probing;
 pub mod values;

@@ -1,18 +1,13 @@
 // The when phase: probe, move, probe again, until it settles or S moves have been made.
-use crate::probing::Ending;
 use crate::probing::Turn;
 use crate::probing::turn_from;
-use judged::readers::state_count;
+use accepted::readers::state_count;
+use model::Ending;
 use model::OwnState;
+use model::Phase;
 use sheet::judging::Places;
-ghost use Rattle.sheet.specs.Judgement.{Stands};
+ghost use Rattle.sheet.specs.Verdict.{Stands};
 ghost use Rattle.node.specs.Phases.{Phases};
-
-// Settled by what, in which state, after how many moves; or loop, the state after S moves, S.
-pub enum Phase {
-    Settled(Ending, OwnState, usize),
-    Loops(OwnState, usize),
-}
 
 // The when phase from state q.
 pub fn when_phase(sheet: &[u8], p: Places, q: OwnState, sets: [u32; 8]) -> Phase

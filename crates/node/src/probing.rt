@@ -1,37 +1,26 @@
 // The probe: the first clause of a state whose guard is true.
 use crate::values::guard_true;
-use bodies::clauses::Referrer;
+use accepted::held::ACTIONS;
+use accepted::held::GUARDS;
+use accepted::held::WHENS;
+use accepted::readers::body_of;
+use accepted::readers::clauses_of;
+use bodies::clauses::ACTION_CLAUSES;
+use bodies::clauses::WHEN_CLAUSES;
 use bodies::clauses::action_command;
 use bodies::clauses::guard_place;
 use bodies::clauses::referrer_at;
-use judged::held::ACTION_CLAUSES;
-use judged::held::ACTIONS;
-use judged::held::GUARDS;
-use judged::held::WHEN_CLAUSES;
-use judged::held::WHENS;
-use judged::readers::body_of;
-use judged::readers::clauses_of;
+use model::Ending;
 use model::OwnState;
+use model::Probed;
+use model::Referrer;
 use sheet::judging::Places;
 ghost use mathlib.Core.Path.{_≡_};
 ghost use Prim.Native.Nat.{_+_, _<_, _≤_};
 ghost use Rattle.sheet.specs.Contents.{body};
 ghost use Rattle.bodies.specs.Clauses.{first-action, action-command};
-ghost use Rattle.sheet.specs.Judgement.{Stands};
+ghost use Rattle.sheet.specs.Verdict.{Stands};
 ghost use Rattle.node.specs.Probing.{clause-true, first-hit, Probes, Turns};
-
-// A clause's number within the state with its referrer and target, or none.
-pub enum Probed {
-    Nothing,
-    Found(usize, Referrer),
-}
-
-// By what a phase settles: no clause, STAY, or DO with the command of its action clause.
-pub enum Ending {
-    ByNone,
-    ByStay,
-    ByDo(usize),
-}
 
 // One turn of the when phase: it ends, or the node moves.
 pub enum Turn {
@@ -81,9 +70,9 @@ pub fn probe(sheet: &[u8], p: Places, q: OwnState, sets: [u32; 8]) -> Probed
 }
 
 // The command of action clause a of state q.
-fn command_of(sheet: &[u8], p: Places, q: OwnState, a: u8) -> usize
+fn command_of(sheet: &[u8], p: Places, q: OwnState, a: u8) -> u8
     requires { ⌜ Stands (now sheet) p ⌝ }
-    ensures { λ r. ⌜ (r ≡ action-command (body (now (sheet .entry)) 4) (first-action (body (now (sheet .entry)) 1) (q .0) + a)) × (r < 256) ⌝ }
+    ensures { λ r. ⌜ r ≡ action-command (body (now (sheet .entry)) 4) (first-action (body (now (sheet .entry)) 1) (q .0) + a) ⌝ }
 {
     let clauses = clauses_of(sheet, p, q, ACTION_CLAUSES);
     let first = clauses.first;

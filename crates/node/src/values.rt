@@ -1,10 +1,10 @@
 // The evaluator of guards on name sets: it calls itself on each operand.
-use crate::crews::occupied_names;
 use bodies::kinds::Pattern;
 use bodies::kinds::pattern_at;
 use bodies::words::byte_at;
 use bodies::words::record_at;
 use bodies::words::u32_at;
+use children::crews::occupied_names;
 ghost use mathlib.Core.Path.{_≡_};
 ghost use Prim.Native.Nat.{_≤_};
 ghost use Rattle.bodies.specs.GuardRecords.{guard-at, guard-from};

@@ -16,7 +16,7 @@ use Rattle.bodies.specs.Clauses.{in-fours, in-eights, count-sum}
 use Rattle.sheet.specs.Rules.{checked, refusal-in, refusal}
 use Rattle.bodies.specs.BodyRules.{classes-right, counts-right, records-right, guards-right, targets-right, actions-plain, commands-apart, actions-right, statements-right}
 use Rattle.sheet.specs.declared.judging.Places.{Places}
-use Rattle.sheet.specs.Judgement.{place-numbers, verdict-numbers, judgement}
+use Rattle.sheet.specs.Verdict.{place-numbers, outcome, verdict}
 
 -- every record has some bytes
 pub some-bytes : (k : ℕ) → k < 6 → 0 < record-bytes k
@@ -102,13 +102,13 @@ module _ {r ok : Bool} {x : ℕ} (n : ℕ) (rest : ℕ) (e : x ≡ checked ok (s
   pub goes-on : not r ≡ false → x ≡ rest
   goes-on t = e ∙ ap (λ (ok : Bool). checked ok (suc n) (λ _. rest)) (sym h ∙ not-false r t)
 
-  pub stops : not r ≡ true → (p : Places) → suc n ∷ [] ≡ verdict-numbers x p
+  pub stops : not r ≡ true → (p : Places) → suc n ∷ [] ≡ outcome x p
   stops t p =
       let f : ok ≡ false = sym h ∙ not-true r t in
       rw (e, f, ne-eqb (suc n) 0 (λ z. omega arith))
 
 -- where no check is left
-pub accepts : {x : ℕ} → x ≡ 0 → (p : Places) → 0 ∷ place-numbers p ≡ verdict-numbers x p
+pub accepts : {x : ℕ} → x ≡ 0 → (p : Places) → 0 ∷ place-numbers p ≡ outcome x p
 accepts e p = rw e
 
 -- right action clauses have the statements' records
@@ -138,8 +138,8 @@ pub length-told : (b : List ℕ) → length-right b ≡ not (outside b)
 unfolding length-right
 length-told b = rw (below-or-not 24 (length b), below-or-not (length b) 18616) (neither (ltb (length b) 24) (ltb 18616 (length b)))
 
-pub length-wrong : (b : List ℕ) → outside b ≡ true → 1 ∷ [] ≡ judgement b
-unfolding judgement refusal
+pub length-wrong : (b : List ℕ) → outside b ≡ true → 1 ∷ [] ≡ verdict b
+unfolding verdict refusal
 length-wrong b h = let f : length-right b ≡ false = length-told b ∙ ap not h in rw f
 
 pub length-fits : (b : List ℕ) → outside b ≡ false → length-right b ≡ true
@@ -147,8 +147,8 @@ length-fits b h = length-told b ∙ ap not h
 
 -- the check of the contents, as the judge makes it
 module _ (b : List ℕ) {f r : Bool} (ef : f ≡ bodies-follow b) (er : r ≡ counts-in-range b) where
-  pub contents-wrong : length-right b ≡ true → not (f && r) ≡ true → 2 ∷ [] ≡ judgement b
-  unfolding judgement refusal contents-right
+  pub contents-wrong : length-right b ≡ true → not (f && r) ≡ true → 2 ∷ [] ≡ verdict b
+  unfolding verdict refusal contents-right
   contents-wrong l h =
       let e : (bodies-follow b && counts-in-range b) ≡ false = rw (ef, er) at (not-true (f && r) h) in
       rw (l, e)

@@ -6,3 +6,4 @@ pub mod Sound
 pub mod JudgeLaws
 pub mod PlaceLaws
 pub mod VerdictLaws
+pub mod AskedLaws

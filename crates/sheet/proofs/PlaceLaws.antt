@@ -9,7 +9,7 @@ use lib.ListN.{length, take, drop}
 use Rattle.sheet.specs.Contents.{start, size, body, length-right, contents-right, Bodies, bodies}
 use Rattle.sheet.specs.Rules.{refusal-in, refusal}
 use Rattle.sheet.specs.declared.judging.Places.{Places}
-use Rattle.sheet.specs.Judgement.{places-of, verdict-numbers, judgement, together, ShortBodies}
+use Rattle.sheet.specs.Verdict.{places-of, outcome, verdict, together, ShortBodies}
 use Rattle.sheet.proofs.Contents.{next-start, last-end, counted}
 
 -- the parts of a byte string that places mark off
@@ -87,8 +87,8 @@ module _ (b : List ℕ) (h : contents-right b ≡ true) where
     pub cut-short : let s = cut b p in ShortBodies (s .classes) (s .states) (s .whens) (s .actions)
     cut-short = subst (λ (s : Bodies). ShortBodies (s .classes) (s .states) (s .whens) (s .actions)) (sym cut-right) bodies-short
 
-    pub judged : {l : List ℕ} → length-right b ≡ true → l ≡ verdict-numbers (refusal-in (cut b p)) p → l ≡ judgement b
-    unfolding judgement refusal
-    judged {l} r j =
-        let f : judgement b ≡ verdict-numbers (refusal-in (bodies b)) (places-of b) = rw (r, h) in
-        j ∙ ap (λ (s : Bodies). verdict-numbers (refusal-in s) p) cut-right ∙ ap (verdict-numbers (refusal-in (bodies b))) e ∙ sym f
+    pub verdict-told : {l : List ℕ} → length-right b ≡ true → l ≡ outcome (refusal-in (cut b p)) p → l ≡ verdict b
+    unfolding verdict refusal
+    verdict-told {l} r j =
+        let f : verdict b ≡ outcome (refusal-in (bodies b)) (places-of b) = rw (r, h) in
+        j ∙ ap (λ (s : Bodies). outcome (refusal-in s) p) cut-right ∙ ap (outcome (refusal-in (bodies b))) e ∙ sym f

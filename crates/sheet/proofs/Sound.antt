@@ -22,7 +22,7 @@ use Rattle.sheet.specs.Rules.{Accepted}
 use Rattle.bodies.specs.BodyRules.{classes-right, target-right, state-targets-right, targets-right}
 use Rattle.sheet.specs.Reading.{when-in, action-in, class-in, class-of}
 use Rattle.bodies.proofs.Bytes.{u32-below}
-use Rattle.bodies.proofs.Bits.{some-bit}
+use Rattle.model.proofs.Bits.{some-bit}
 use Rattle.sheet.proofs.Contents.{body-bytes, counted}
 use Rattle.sheet.proofs.Rules.{BodiesRight, accepted-right}
 use Rattle.sheet.proofs.Reading.{child-classes-in, own-states-in, name-set-in, actions-in, mem-whens, mem-actions}

@@ -8,16 +8,16 @@ use mathlib.Core.List.{List, [], _∷_}
 use borrow.Author.Tests.{ne-eqb}
 use Rattle.model.specs.Refusals.{number-of}
 use Rattle.model.proofs.Words.{clash}
-use Rattle.model.proofs.Refusals.{same-number}
+use Rattle.model.proofs.RefusalLaws.{same-number}
 use Rattle.model.specs.declared.Refusal.{Refusal}
 use Rattle.sheet.specs.Contents.{length-right, contents-right, bodies}
 use Rattle.bodies.specs.Clauses.{in-fours, in-eights}
 use Rattle.sheet.specs.Rules.{checked, refusal-in, refusal}
 use Rattle.bodies.specs.BodyRules.{classes-right, counts-right, records-right, guards-right, targets-right, actions-right, statements-right}
 use Rattle.sheet.specs.declared.judging.Places.{Places}
-use Rattle.sheet.specs.declared.judging.Judged.{Judged}
-use Rattle.sheet.specs.declared.judging.Judged.the-variants.{Accepted, Refused}
-use Rattle.sheet.specs.Judgement.{places-of, place-numbers, judged-numbers, verdict-numbers, judgement}
+use Rattle.sheet.specs.declared.judging.Verdict.{Verdict}
+use Rattle.sheet.specs.declared.judging.Verdict.the-variants.{Accepted, Refused}
+use Rattle.sheet.specs.Verdict.{places-of, place-numbers, verdict-numbers, outcome, verdict}
 
 -- the answer's numbers tell the answer
 same-places : (p q : Places) → place-numbers p ≡ place-numbers q → p ≡ q
@@ -30,22 +30,22 @@ same-places p q e =
     let g : p .statements ≡ q .statements = cc in
     λ i. record { classes = a i; states = b i; whens = c i; guards = d i; actions = f i; statements = g i }
 
-same-answer : (r s : Judged) → judged-numbers r ≡ judged-numbers s → r ≡ s
+same-answer : (r s : Verdict) → verdict-numbers r ≡ verdict-numbers s → r ≡ s
 same-answer (Accepted p) (Accepted q) e = ap Accepted (same-places p q (cc))
 same-answer (Accepted p) (Refused y) e = absurd (clash (cc))
 same-answer (Refused x) (Accepted q) e = absurd (clash (cc))
 same-answer (Refused x) (Refused y) e = ap Refused (same-number x y (cc))
 
 -- the judge's promise leaves one answer
-pub one-judgement : (b : List ℕ) (r s : Judged) → judged-numbers r ≡ judgement b → judged-numbers s ≡ judgement b → r ≡ s
-one-judgement b r s e f = same-answer r s (e ∙ sym f)
+pub one-verdict : (b : List ℕ) (r s : Verdict) → verdict-numbers r ≡ verdict b → verdict-numbers s ≡ verdict b → r ≡ s
+one-verdict b r s e f = same-answer r s (e ∙ sym f)
 
 -- what acceptance and refusal say
-verdict-accepted : (n : ℕ) (p q : Places) → 0 ∷ place-numbers p ≡ verdict-numbers n q → (n ≡ 0) × (p ≡ q)
+verdict-accepted : (n : ℕ) (p q : Places) → 0 ∷ place-numbers p ≡ outcome n q → (n ≡ 0) × (p ≡ q)
 verdict-accepted zero p q e = (refl, same-places p q (cc))
 verdict-accepted (suc n) p q e = let f : 0 ∷ place-numbers p ≡ suc n ∷ [] = rw (ne-eqb (suc n) 0 (λ z. omega arith)) at e in absurd (clash (cc))
 
-verdict-refused : (n : ℕ) (x : Refusal) (q : Places) → number-of x ∷ [] ≡ verdict-numbers n q → (number-of x ≡ n) × (0 < n)
+verdict-refused : (n : ℕ) (x : Refusal) (q : Places) → number-of x ∷ [] ≡ outcome n q → (number-of x ≡ n) × (0 < n)
 verdict-refused zero x q e = absurd (clash (cc))
 verdict-refused (suc n) x q e = let f : number-of x ∷ [] ≡ suc n ∷ [] = rw (ne-eqb (suc n) 0 (λ z. omega arith)) at e in (cc, (omega arith))
 
@@ -68,15 +68,15 @@ refusal-most b =
     (checked-most (actions-right (s .states) (s .actions) (in-eights (s .statements))) 8 _ (omega arith)
     (checked-most (statements-right (in-fours (s .classes)) (in-fours (s .states)) (s .guards) (s .actions) (s .statements)) 9 _ (omega arith) (omega arith)))))))))
 
-module _ (b : List ℕ) (r : Judged) (e : judged-numbers r ≡ judgement b) where
+module _ (b : List ℕ) (r : Verdict) (e : verdict-numbers r ≡ verdict b) where
   -- an accepted sheet keeps the rules, and its places are those that its contents name
   pub told-accepted : (p : Places) → r ≡ Accepted p → (refusal b ≡ 0) × (p ≡ places-of b)
-  unfolding judgement
+  unfolding verdict
   told-accepted p a = verdict-accepted (refusal b) p (places-of b) (rw a at e)
 
   -- a refused one gets the number of the first rule that it breaks
   pub told-refused : (x : Refusal) → r ≡ Refused x → (number-of x ≡ refusal b) × (1 ≤ number-of x) × (number-of x ≤ 9)
-  unfolding judgement
+  unfolding verdict
   told-refused x a =
       let (f, l) = verdict-refused (refusal b) x (places-of b) (rw a at e) in
       (f, (omega arith), (omega (arith, refusal-most b)))

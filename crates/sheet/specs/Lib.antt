@@ -1,5 +1,5 @@
 pub mod Contents
 pub mod Rules
 pub mod Reading
-pub mod Judgement
-pub mod ChildList
+pub mod Verdict
+pub mod Asked

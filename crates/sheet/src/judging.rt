@@ -13,7 +13,7 @@ ghost use Prim.Native.Nat.{_+_, _*_, _<_, _≤_};
 ghost use lib.ListN.{length};
 ghost use Rattle.sheet.specs.Contents.{start, size, record-bytes, fewest, most, count-right, bodies-follow, counts-in-range, contents-right};
 ghost use Rattle.sheet.specs.Rules.{refusal-in};
-ghost use Rattle.sheet.specs.Judgement.{places-of, judged-numbers, verdict-numbers, judgement, together, ShortBodies};
+ghost use Rattle.sheet.specs.Verdict.{places-of, verdict-numbers, outcome, verdict, together, ShortBodies};
 
 // Where each of the six bodies starts; each ends where the next starts, and the last ends with the sheet.
 pub struct Places {
@@ -26,7 +26,7 @@ pub struct Places {
 }
 
 // What the judge answers.
-pub enum Judged {
+pub enum Verdict {
     Accepted(Places),
     Refused(Refusal),
 }
@@ -120,46 +120,46 @@ fn judge_bodies(
     actions: &[u8],
     statements: &[u8],
     places: Places,
-) -> Judged
+) -> Verdict
     requires { ⌜ ShortBodies (now classes) (now states) (now whens) (now actions) ⌝ }
-    ensures { λ r. ⌜ judged-numbers r ≡ verdict-numbers (refusal-in (together (now (classes .entry)) (now (states .entry)) (now (whens .entry)) (now (guards .entry)) (now (actions .entry)) (now (statements .entry)))) places ⌝ }
+    ensures { λ r. ⌜ verdict-numbers r ≡ outcome (refusal-in (together (now (classes .entry)) (now (states .entry)) (now (whens .entry)) (now (guards .entry)) (now (actions .entry)) (now (statements .entry)))) places ⌝ }
 {
     let class_count = classes.len() / 4;
     let state_count = states.len() / 4;
     if !classes_ok(classes) {
-        return Judged::Refused(Refusal::EmptyNameSet);
+        return Verdict::Refused(Refusal::EmptyNameSet);
     }
     if !counts_ok(states, whens.len() / 4, actions.len() / 4) {
-        return Judged::Refused(Refusal::ClauseCounts);
+        return Verdict::Refused(Refusal::ClauseCounts);
     }
     if !records_ok(class_count, guards) {
-        return Judged::Refused(Refusal::GuardLayout);
+        return Verdict::Refused(Refusal::GuardLayout);
     }
     if !guards_ok(guards, whens) {
-        return Judged::Refused(Refusal::GuardReach);
+        return Verdict::Refused(Refusal::GuardReach);
     }
     if !targets_ok(states, whens) {
-        return Judged::Refused(Refusal::Target);
+        return Verdict::Refused(Refusal::Target);
     }
     if !actions_ok(states, actions, statements.len() / 8) {
-        return Judged::Refused(Refusal::ActionClause);
+        return Verdict::Refused(Refusal::ActionClause);
     }
     if !statements_ok(class_count, state_count, guards, actions, statements) {
-        return Judged::Refused(Refusal::Statement);
+        return Verdict::Refused(Refusal::Statement);
     }
-    Judged::Accepted(places)
+    Verdict::Accepted(places)
 }
 
-// The judgement of a byte string offered as a sheet: each body is handed on as a part that starts in the sheet's middle.
-pub fn judge(sheet: &[u8]) -> Judged
-    ensures { λ r. ⌜ judged-numbers r ≡ judgement (now (sheet .entry)) ⌝ }
+// The verdict of a byte string offered as a sheet: each body is handed on as a part that starts in the sheet's middle.
+pub fn judge(sheet: &[u8]) -> Verdict
+    ensures { λ r. ⌜ verdict-numbers r ≡ verdict (now (sheet .entry)) ⌝ }
 {
     let end = sheet.len();
     if (end < 24) | (18616 < end) {
-        return Judged::Refused(Refusal::SheetLength);
+        return Verdict::Refused(Refusal::SheetLength);
     }
     if !(bodies_follow(sheet) & counts_in_range(sheet)) {
-        return Judged::Refused(Refusal::Contents);
+        return Verdict::Refused(Refusal::Contents);
     }
     let p = read_places(sheet);
     let classes = p.classes;

@@ -9,11 +9,11 @@ use Rattle.bargewicker.proofs.command.Statement.{statement}
 use Rattle.bargewicker.proofs.command.Tie as tie
 
 command-in-requires : tie.Need-command-in-requires
-command-in-requires c κs = stands _ _ (c .before .before .before .before .judge .ensures) _ (c .before .before .judged .given .1)
+command-in-requires c κs = stands _ _ (c .before .before .before .before .judge .ensures) _ (c .before .before .verdict .given .1)
 
 returns-2 : tie.Need-returns-2
 unfolding reply placed
-returns-2 c = answered-refused _ _ (refused-too _ _ (c .before .before .before .judge .ensures) _ (c .before .judged2 .given .1) _) _ refl
+returns-2 c = answered-refused _ _ (refused-too _ _ (c .before .before .before .judge .ensures) _ (c .before .verdict2 .given .1) _) _ refl
 
 pub command-spec : {M : Type 1} → statement M
 command-spec =

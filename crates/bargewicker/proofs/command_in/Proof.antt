@@ -5,7 +5,7 @@ use mathlib.Core.Path.{_≡_, refl}
 use lib.ListN.{length}
 use Rattle.model.specs.Tree.{Class}
 use Rattle.sheet.specs.Reading.{class-of}
-use Rattle.node.proofs.ListLaws.{list-short}
+use Rattle.children.proofs.ListLaws.{list-short}
 use Rattle.bargewicker.specs.Questions.{Reply, placed, reply}
 use Rattle.bargewicker.proofs.AskedLaws.{not-fitting, fitting, right-list, crew}
 use Rattle.bargewicker.proofs.BufferLaws.{answered-refused, answer-over}

@@ -16,7 +16,7 @@ returns c = sym (ap numbers (asked _ (λ x. give accepted []) (stands _ _ (c .be
 
 returns-2 : tie.Need-returns-2
 unfolding reply numbers
-returns-2 c = sym (ap numbers (refused-too _ _ (c .before .before .before .judge .ensures) _ (c .before .judged .given .1) (λ x. give accepted [])))
+returns-2 c = sym (ap numbers (refused-too _ _ (c .before .before .before .judge .ensures) _ (c .before .verdict .given .1) (λ x. give accepted [])))
 
 pub judge-spec : {M : Type 1} → statement M
 judge-spec = tie.close (tie.spec (λ c κs. search needs) (λ c. search needs) (λ c. search needs) returns returns-2)

@@ -9,11 +9,11 @@ use Rattle.bargewicker.proofs.loop_question.Statement.{statement}
 use Rattle.bargewicker.proofs.loop_question.Tie as tie
 
 loop-with-requires : tie.Need-loop-with-requires
-loop-with-requires c κs = stands _ _ (c .before .before .before .before .judge .ensures) _ (c .before .before .judged .given .1)
+loop-with-requires c κs = stands _ _ (c .before .before .before .before .judge .ensures) _ (c .before .before .verdict .given .1)
 
 returns-2 : tie.Need-returns-2
 unfolding reply
-returns-2 c = answered-refused _ _ (refused-too _ _ (c .before .before .before .judge .ensures) _ (c .before .judged2 .given .1) _) _ refl
+returns-2 c = answered-refused _ _ (refused-too _ _ (c .before .before .before .judge .ensures) _ (c .before .verdict2 .given .1) _) _ refl
 
 pub loop-question-spec : {M : Type 1} → statement M
 loop-question-spec =

@@ -17,7 +17,7 @@ loop-holds : tie.Need-loop-holds Inv-loop μ-loop
 loop-holds c = (search needs, λ j l. absurd (omega arith))
 
 loop-again : tie.Need-loop-again Inv-loop μ-loop
-loop-again c = (search needs, passed-more (c .before .before .before .before .body-of .result .now) (c .before .before .before .before .before .clauses-of .result .first) _ _ _ (c .before .before .before .loop .inv .1) (c .before .action-command .ensures .0) (c .if2 .left))
+loop-again c = (search needs, passed-more (c .before .before .before .before .body-of .result .now) (c .before .before .before .before .before .clauses-of .result .first) _ _ _ (c .before .before .before .loop .inv .1) (c .before .action-command .ensures) (c .if2 .left))
 
 returns : tie.Need-returns Inv-loop μ-loop
 returns c =
@@ -27,7 +27,7 @@ returns c =
 returns-2 : tie.Need-returns-2 Inv-loop μ-loop
 returns-2 c =
     let b = c .before .before .before .before in
-    search-finds _ _ _ _ _ _ _ (b .body-of .ensures) (b .before .clauses-of .ensures .first-is) (b .before .clauses-of .ensures .count-is) (c .before .before .before .loop .inv .1) _ (c .before .before .if1 .left) (c .before .before .before .loop .inv .0) (c .before .action-command .ensures .0) (c .if2 .taken)
+    search-finds _ _ _ _ _ _ _ (b .body-of .ensures) (b .before .clauses-of .ensures .first-is) (b .before .clauses-of .ensures .count-is) (c .before .before .before .loop .inv .1) _ (c .before .before .if1 .left) (c .before .before .before .loop .inv .0) (c .before .action-command .ensures) (c .if2 .taken)
 
 pub clause-for-spec : {M : Type 1} → statement M
 clause-for-spec =

@@ -6,7 +6,7 @@ use mathlib.Core.Path.{refl}
 use mathlib.Core.List.{List, []}
 use lib.ListN.{length}
 use Rattle.model.specs.Commands.{run-part}
-use Rattle.sheet.specs.ChildList.{children-of}
+use Rattle.children.specs.ChildList.{children-of}
 use Rattle.sheet.proofs.Rules.{accepted-right}
 use Rattle.commands.specs.Commands.{Does, RunsPart}
 use Rattle.commands.specs.declared.Ran.{Ran}

@@ -24,10 +24,10 @@ loop-holds c = (search needs, each-none _)
 
 returns : tie.Need-returns Inv-loop μ-loop
 unfolding new-command
-returns c = sym (each-broken _ _ _ (c .before .before .loop-test .taken) (differ-not _ _ (sym (c .before .action-command2 .ensures .0) ∙ c .if1 .taken ∙ c .before .before .before .before .action-command .ensures .0)))
+returns c = sym (each-broken _ _ _ (c .before .before .loop-test .taken) (differ-not _ _ (sym (c .before .action-command2 .ensures) ∙ c .if1 .taken ∙ c .before .before .before .before .action-command .ensures)))
 
 loop-again : tie.Need-loop-again Inv-loop μ-loop
-loop-again c = (search needs, each-so-far _ _ (c .before .before .before .loop .inv .1) (differ _ _ (λ e. c .if1 .left (c .before .action-command2 .ensures .0 ∙ e ∙ sym (c .before .before .before .before .action-command .ensures .0)))))
+loop-again c = (search needs, each-so-far _ _ (c .before .before .before .loop .inv .1) (differ _ _ (λ e. c .if1 .left (c .before .action-command2 .ensures ∙ e ∙ sym (c .before .before .before .before .action-command .ensures)))))
 
 returns-2 : tie.Need-returns-2 Inv-loop μ-loop
 unfolding new-command

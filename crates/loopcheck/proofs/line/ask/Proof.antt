@@ -7,13 +7,13 @@ use Rattle.loopcheck.proofs.line.ask.Statement.{statement}
 use Rattle.loopcheck.proofs.line.ask.Tie as tie
 
 class-count-requires : tie.Need-class-count-requires
-class-count-requires c κs = stands _ _ (c .before .before .before .judge .ensures) _ (c .before .judged .given .1)
+class-count-requires c κs = stands _ _ (c .before .before .before .judge .ensures) _ (c .before .verdict .given .1)
 
 returns : tie.Need-returns
 returns c = all-asked _ _ _ _ _ _ (c .before .before .before .before .before .class-count .ensures .0) (c .before .before .before .before .all-classes .ensures) (c .before .before .loop-question .ensures)
 
 returns-2 : tie.Need-returns-2
-returns-2 c = refused-told _ _ _ _ (c .before .before .before .judge .ensures) (c .before .judged2 .given .1)
+returns-2 c = refused-told _ _ _ _ (c .before .before .before .judge .ensures) (c .before .verdict2 .given .1)
 
 pub ask-spec : {M : Type 1} → statement M
 ask-spec = tie.close (tie.spec (λ c κs. search needs) (λ c. search needs) class-count-requires (λ c κs. search needs) (λ c κs. search needs) (λ c. search needs) (λ c. search needs) returns returns-2)

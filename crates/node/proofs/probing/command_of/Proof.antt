@@ -6,7 +6,7 @@ use Rattle.node.proofs.probing.command_of.Statement.{statement}
 use Rattle.node.proofs.probing.command_of.Tie as tie
 
 returns : tie.Need-returns
-returns c = (command-read _ _ _ _ _ _ (c .before .before .clauses-of .ensures) (c .before .body-of .ensures) (c .action-command .ensures .0), c .action-command .ensures .1)
+returns c = command-read _ _ _ _ _ _ (c .before .before .clauses-of .ensures) (c .before .body-of .ensures) (c .action-command .ensures)
 
 pub command-of-spec : {M : Type 1} → statement M
 command-of-spec =

@@ -12,7 +12,7 @@ returns-2 : tie.Need-returns-2
 returns-2 c = let b = c .before .before .before .before in turns-moves _ _ (b .before .before .before .before .pre) _ _ _ (b .before .before .probe .ensures) _ _ (b .probed .given .1) _ (c .before .referrer .given .1)
 
 returns-3 : tie.Need-returns-3
-returns-3 c = let b = c .before .before .before .before .before in turns-do _ _ (b .before .before .before .before .pre) _ _ _ (b .before .before .probe .ensures) _ _ (b .probed .given .1) _ (c .before .before .referrer2 .given .1) _ (c .command-of .ensures .0)
+returns-3 c = let b = c .before .before .before .before .before in turns-do _ _ (b .before .before .before .before .pre) _ _ _ (b .before .before .probe .ensures) _ _ (b .probed .given .1) _ (c .before .before .referrer2 .given .1) _ (c .command-of .ensures)
 
 returns-4 : tie.Need-returns-4
 returns-4 c = let b = c .before .before .before in turns-stay _ _ (b .before .before .before .before .pre) _ _ _ (b .before .before .probe .ensures) _ _ (b .probed .given .1) (c .enum-told2 .given .1)

@@ -5,7 +5,7 @@ use mathlib.Core.Bool.{true}
 use borrow.Author.Needs.{needs}
 use Rattle.sheet.specs.Contents.{length-right, contents-right}
 use Rattle.sheet.proofs.JudgeLaws.{length-wrong, length-fits, contents-wrong, contents-fit}
-use Rattle.sheet.proofs.PlaceLaws.{Rising, rising, cut-short, judged}
+use Rattle.sheet.proofs.PlaceLaws.{Rising, rising, cut-short, verdict-told}
 use Rattle.sheet.proofs.judging.judge.Statement.{statement}
 use Rattle.sheet.proofs.judging.judge.Tie as tie
 
@@ -28,7 +28,7 @@ judge-bodies-requires : tie.Need-judge-bodies-requires
 judge-bodies-requires c κs = let p = c .before .before .before .before .before .before in cut-short (p .before .before .before .before .before .before .args .sheet .now) (right (p .before)) (p .read-places .ensures)
 
 returns-3 : tie.Need-returns-3
-returns-3 c = let p = c .before .before .before .before .before .before .before in judged _ (right (p .before)) (p .read-places .ensures) (long-enough (p .before .before .before .before)) (c .judge-bodies .ensures)
+returns-3 c = let p = c .before .before .before .before .before .before .before in verdict-told _ (right (p .before)) (p .read-places .ensures) (long-enough (p .before .before .before .before)) (c .judge-bodies .ensures)
 
 pub judge-spec : {M : Type 1} → statement M
 judge-spec =

@@ -5,7 +5,7 @@ use borrow.Author.Needs.{needs}
 use borrow.Author.Tests.{not-false}
 use Rattle.sheet.specs.Contents.{Bodies}
 use Rattle.sheet.specs.Rules.{refusal-in}
-use Rattle.sheet.specs.Judgement.{together}
+use Rattle.sheet.specs.Verdict.{together}
 use Rattle.sheet.proofs.JudgeLaws.{from-4, from-5, from-6, from-7, from-8, from-9, from-first, goes-on, stops, accepts, sum-right}
 use Rattle.sheet.proofs.judging.judge_bodies.Statement.{statement}
 use Rattle.sheet.proofs.judging.judge_bodies.Tie as tie

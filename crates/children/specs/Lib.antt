@@ -1,0 +1,3 @@
+pub mod ChildList
+pub mod NameSets
+pub mod Lists

@@ -1,0 +1,162 @@
+-- Laws about specs/Answers.antt: the tree's terms and the paper's numbers tell the code's answers apart.
+-- Assumes nothing.
+use Prim.Native.Nat.{ℕ}
+use native.Mathlib.Omega.{arith}
+use mathlib.Core.Path.{_≡_, refl, sym, ap, ap₂}
+use mathlib.Core.List.{[], _∷_}
+use Rattle.model.specs.Tree as Tree
+use Rattle.model.specs.Node as Node
+use Rattle.model.specs.Values.{referrer-values, probed-values, settled-values, phase-values}
+use Rattle.model.specs.Answers.{referrer-as, probed-as, ending-as, phase-as, handled-values, looped-values, judge-numbers, probe-numbers, phase-numbers, command-numbers, loop-numbers}
+use Rattle.model.specs.declared.OwnState.{OwnState}
+use Rattle.model.specs.declared.Referrer.{Referrer}
+use Rattle.model.specs.declared.Referrer.the-variants.{MoveTo, Do, Stay}
+use Rattle.model.specs.declared.Probed.{Probed}
+use Rattle.model.specs.declared.Probed.the-variants.{Nothing, Found}
+use Rattle.model.specs.declared.Ending.{Ending}
+use Rattle.model.specs.declared.Ending.the-variants.{ByNone, ByStay, ByDo}
+use Rattle.model.specs.declared.Phase.{Phase}
+use Rattle.model.specs.declared.Phase.the-variants.{Settled, Loops as Looping}
+use Rattle.model.specs.declared.Handling.{Handling}
+use Rattle.model.specs.declared.Handling.the-variants.{Ignored, Handled}
+use Rattle.model.specs.declared.Loops.{Loops}
+use Rattle.model.specs.declared.Loops.the-variants.{Loop, Free}
+use Rattle.model.specs.declared.JudgeAnswer.{JudgeAnswer}
+use Rattle.model.specs.declared.JudgeAnswer.the-variants as J
+use Rattle.model.specs.declared.ProbeAnswer.{ProbeAnswer}
+use Rattle.model.specs.declared.ProbeAnswer.the-variants as P
+use Rattle.model.specs.declared.PhaseAnswer.{PhaseAnswer}
+use Rattle.model.specs.declared.PhaseAnswer.the-variants as W
+use Rattle.model.specs.declared.CommandAnswer.{CommandAnswer}
+use Rattle.model.specs.declared.CommandAnswer.the-variants as C
+use Rattle.model.specs.declared.LoopAnswer.{LoopAnswer}
+use Rattle.model.specs.declared.LoopAnswer.the-variants as L
+use Rattle.model.proofs.Words.{clash}
+use Rattle.model.proofs.RefusalLaws.{same-number, not-zero}
+
+-- own states of one number are one
+pub same-state : (s t : OwnState) → s .0 ≡ t .0 → s ≡ t
+same-state s t e = λ i. record { 0 = e i }
+
+-- the tree's terms tell the code's apart
+pub same-referrer : (r s : Referrer) → referrer-as r ≡ referrer-as s → r ≡ s
+same-referrer (MoveTo t) (MoveTo u) e = ap MoveTo (same-state t u (cc))
+same-referrer (MoveTo t) (Do b) e = absurd (clash (cc))
+same-referrer (MoveTo t) Stay e = absurd (clash (cc))
+same-referrer (Do a) (MoveTo u) e = absurd (clash (cc))
+same-referrer (Do a) (Do b) e = ap Do (cc)
+same-referrer (Do a) Stay e = absurd (clash (cc))
+same-referrer Stay (MoveTo u) e = absurd (clash (cc))
+same-referrer Stay (Do b) e = absurd (clash (cc))
+same-referrer Stay Stay e = refl
+
+pub same-probed : (r s : Probed) → probed-as r ≡ probed-as s → r ≡ s
+same-probed Nothing Nothing e = refl
+same-probed Nothing (Found j s) e = absurd (clash (cc))
+same-probed (Found i r) Nothing e = absurd (clash (cc))
+same-probed (Found i r) (Found j s) e = ap₂ Found (cc) (same-referrer r s (cc))
+
+pub same-ending : (d e : Ending) → ending-as d ≡ ending-as e → d ≡ e
+same-ending ByNone ByNone h = refl
+same-ending ByNone ByStay h = absurd (clash (cc))
+same-ending ByNone (ByDo b) h = absurd (clash (cc))
+same-ending ByStay ByNone h = absurd (clash (cc))
+same-ending ByStay ByStay h = refl
+same-ending ByStay (ByDo b) h = absurd (clash (cc))
+same-ending (ByDo a) ByNone h = absurd (clash (cc))
+same-ending (ByDo a) ByStay h = absurd (clash (cc))
+same-ending (ByDo a) (ByDo b) h = ap ByDo (cc)
+
+pub same-phase : (r s : Phase) → phase-as r ≡ phase-as s → r ≡ s
+same-phase (Settled d q m) (Settled e r n) h = λ i. Settled (same-ending d e (cc) i) (same-state q r (cc) i) ((let z : m ≡ n = cc in z) i)
+same-phase (Settled d q m) (Looping r n) h = absurd (clash (cc))
+same-phase (Looping q m) (Settled e r n) h = absurd (clash (cc))
+same-phase (Looping q m) (Looping r n) h = ap₂ Looping (same-state q r (cc)) (cc)
+
+-- the paper's values tell the tree's terms apart
+referrer-told : (r s : Tree.Referrer) → referrer-values r ≡ referrer-values s → r ≡ s
+referrer-told (Tree.move-to t) (Tree.move-to u) e = ap Tree.move-to (cc)
+referrer-told (Tree.move-to t) (Tree.run b) e = absurd (clash (cc))
+referrer-told (Tree.move-to t) Tree.stay e = absurd (let z : _≡_ {A = ℕ} 0 2 = cc in omega arith)
+referrer-told (Tree.run a) (Tree.move-to u) e = absurd (clash (cc))
+referrer-told (Tree.run a) (Tree.run b) e = ap Tree.run (cc)
+referrer-told (Tree.run a) Tree.stay e = absurd (let z : _≡_ {A = ℕ} 1 2 = cc in omega arith)
+referrer-told Tree.stay (Tree.move-to u) e = absurd (let z : _≡_ {A = ℕ} 0 2 = cc in omega arith)
+referrer-told Tree.stay (Tree.run b) e = absurd (let z : _≡_ {A = ℕ} 1 2 = cc in omega arith)
+referrer-told Tree.stay Tree.stay e = refl
+
+probed-told : (r s : Node.Probed) → probed-values r ≡ probed-values s → r ≡ s
+probed-told Node.nothing Node.nothing e = refl
+probed-told Node.nothing (Node.found j s) e = absurd (clash (cc))
+probed-told (Node.found i r) Node.nothing e = absurd (clash (cc))
+probed-told (Node.found i r) (Node.found j s) e = ap₂ Node.found (cc) (referrer-told r s (cc))
+
+settled-told : (d e : Node.Ending) (q r m n : ℕ) → settled-values d q m ≡ settled-values e r n → Node.settled d q m ≡ Node.settled e r n
+settled-told Node.by-none Node.by-none q r m n h = ap₂ (Node.settled Node.by-none) (cc) (cc)
+settled-told Node.by-none Node.by-stay q r m n h = absurd (clash (cc))
+settled-told Node.by-none (Node.by-do b) q r m n h = absurd (let z : _≡_ {A = ℕ} 0 2 = cc in omega arith)
+settled-told Node.by-stay Node.by-none q r m n h = absurd (clash (cc))
+settled-told Node.by-stay Node.by-stay q r m n h = ap₂ (Node.settled Node.by-stay) (cc) (cc)
+settled-told Node.by-stay (Node.by-do b) q r m n h = absurd (let z : _≡_ {A = ℕ} 1 2 = cc in omega arith)
+settled-told (Node.by-do a) Node.by-none q r m n h = absurd (let z : _≡_ {A = ℕ} 0 2 = cc in omega arith)
+settled-told (Node.by-do a) Node.by-stay q r m n h = absurd (let z : _≡_ {A = ℕ} 1 2 = cc in omega arith)
+settled-told (Node.by-do a) (Node.by-do b) q r m n h =
+    let x : a ≡ b = cc in
+    let y : q ≡ r = cc in
+    let z : m ≡ n = cc in
+    λ i. Node.settled (Node.by-do (x i)) (y i) (z i)
+
+-- a settled phase is no loop
+not-loop : (d : Node.Ending) (q r m n : ℕ) → settled-values d q m ≡ 3 ∷ r ∷ n ∷ [] → ⊥
+not-loop Node.by-none q r m n e = let z : _≡_ {A = ℕ} 0 3 = cc in omega arith
+not-loop Node.by-stay q r m n e = let z : _≡_ {A = ℕ} 1 3 = cc in omega arith
+not-loop (Node.by-do a) q r m n e = let z : _≡_ {A = ℕ} 2 3 = cc in omega arith
+
+phase-told : (r s : Node.Phase) → phase-values r ≡ phase-values s → r ≡ s
+phase-told (Node.settled d q m) (Node.settled e r n) h = settled-told d e q r m n h
+phase-told (Node.settled d q m) (Node.loops r n) h = absurd (not-loop d q r m n h)
+phase-told (Node.loops q m) (Node.settled e r n) h = absurd (not-loop e r q n m (sym h))
+phase-told (Node.loops q m) (Node.loops r n) h = ap₂ Node.loops (cc) (cc)
+
+handled-told : (r s : Handling) → handled-values r ≡ handled-values s → r ≡ s
+handled-told (Ignored q) (Ignored r) e = ap Ignored (same-state q r (cc))
+handled-told (Ignored q) (Handled r n) e = absurd (clash (cc))
+handled-told (Handled q m) (Ignored r) e = absurd (clash (cc))
+handled-told (Handled q m) (Handled r n) e = ap₂ Handled (same-state q r (cc)) (cc)
+
+looped-told : (r s : Loops) → looped-values r ≡ looped-values s → r ≡ s
+looped-told (Loop k q) (Loop j r) e = ap₂ Loop (cc) (same-state q r (cc))
+looped-told (Loop k q) (Free m) e = absurd (clash (cc))
+looped-told (Free m) (Loop k q) e = absurd (clash (cc))
+looped-told (Free m) (Free n) e = ap Free (cc)
+
+-- the paper's numbers tell answers apart
+pub same-judge : (r s : JudgeAnswer) → judge-numbers r ≡ judge-numbers s → r ≡ s
+same-judge (J.Refused x) (J.Refused y) e = ap J.Refused (same-number x y (cc))
+same-judge (J.Refused x) J.Accepted e = absurd (not-zero x (cc))
+same-judge J.Accepted (J.Refused y) e = absurd (not-zero y (cc))
+same-judge J.Accepted J.Accepted e = refl
+
+pub same-probe : (r s : ProbeAnswer) → probe-numbers r ≡ probe-numbers s → r ≡ s
+same-probe (P.Refused x) (P.Refused y) e = ap P.Refused (same-number x y (cc))
+same-probe (P.Refused x) (P.Given s) e = absurd (not-zero x (cc))
+same-probe (P.Given r) (P.Refused y) e = absurd (not-zero y (cc))
+same-probe (P.Given r) (P.Given s) e = ap P.Given (same-probed r s (probed-told (probed-as r) (probed-as s) (cc)))
+
+pub same-phase-answer : (r s : PhaseAnswer) → phase-numbers r ≡ phase-numbers s → r ≡ s
+same-phase-answer (W.Refused x) (W.Refused y) e = ap W.Refused (same-number x y (cc))
+same-phase-answer (W.Refused x) (W.Given s) e = absurd (not-zero x (cc))
+same-phase-answer (W.Given r) (W.Refused y) e = absurd (not-zero y (cc))
+same-phase-answer (W.Given r) (W.Given s) e = ap W.Given (same-phase r s (phase-told (phase-as r) (phase-as s) (cc)))
+
+pub same-command : (r s : CommandAnswer) → command-numbers r ≡ command-numbers s → r ≡ s
+same-command (C.Refused x) (C.Refused y) e = ap C.Refused (same-number x y (cc))
+same-command (C.Refused x) (C.Given s) e = absurd (not-zero x (cc))
+same-command (C.Given r) (C.Refused y) e = absurd (not-zero y (cc))
+same-command (C.Given r) (C.Given s) e = ap C.Given (handled-told r s (cc))
+
+pub same-loop : (r s : LoopAnswer) → loop-numbers r ≡ loop-numbers s → r ≡ s
+same-loop (L.Refused x) (L.Refused y) e = ap L.Refused (same-number x y (cc))
+same-loop (L.Refused x) (L.Given s) e = absurd (not-zero x (cc))
+same-loop (L.Given r) (L.Refused y) e = absurd (not-zero y (cc))
+same-loop (L.Given r) (L.Given s) e = ap L.Given (looped-told r s (cc))
