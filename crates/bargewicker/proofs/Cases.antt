@@ -4,7 +4,6 @@ use mathlib.Core.Path.{_≡_, refl, sym, _∙_, ap}
 use mathlib.Core.List.{List, [], _∷_, map, List·Memᴰ, List·Memᴰ·not-nil, List·Memᴰ·cases-cons, head-eq-of-cons-eq, tail-eq-of-cons-eq}
 use mathlib.Core.Logic.{_⊎_, inl, inr}
 use Rattle.bargewicker.specs.Cases.{Case, cases, given, Worked, CasesHold}
-use Rattle.bargewicker.proofs.PromiseLaws.{answered-by}
 use Rattle.bargewicker.proofs.Computing.{computing}
 
 pub worked : Worked
@@ -25,5 +24,4 @@ pub cases-hold : CasesHold
 unfolding given
 cases-hold e m r after h =
     let p : given e ≡ e = fixed given cases worked e m in
-    let a = answered-by (e .question) r after h in
-    record { numbers-are = a .numbers-are ∙ ap (λ (x : Case). x .answer) p; buffer-is = a .buffer-is ∙ ap (λ (x : Case). x .buffer) p }
+    record { numbers-are = h .numbers-are ∙ ap (λ (x : Case). x .answer) p; buffer-is = h .buffer-is ∙ ap (λ (x : Case). x .buffer) p }

@@ -1,49 +1,54 @@
 -- Demand 3, of whatever meets the promise of the loop question.
 -- Assumes nothing.
-use Prim.Native.Nat.{ℕ, _*_, _≤_}
+use Prim.Native.Nat.{ℕ}
 use mathlib.Core.Path.{_≡_, refl, sym, _∙_, ap, subst}
-use mathlib.Core.Bool.{true}
-use mathlib.Core.List.{List}
-use lib.ListN.{length}
-use Rattle.model.specs.Tree.{Child}
+use mathlib.Core.List.{List, [], _∷_}
 use Rattle.model.proofs.Words.{clash}
-use Rattle.bodies.specs.Bytes.{Bytes}
-use Rattle.sheet.specs.Rules.{Accepted}
 use Rattle.sheet.specs.Reading.{class-of}
 use Rattle.children.specs.ChildList.{pairs}
 use Rattle.model.specs.Replies.{written}
 use Rattle.sheet.proofs.Sound.{sound}
-use Rattle.configurations.specs.Configurations.{name-count, list-of}
 use Rattle.configurations.specs.LoopAnswer.{Loops, loop, free, loop-answer}
 use Rattle.configurations.specs.Demand.{Demanded}
 use Rattle.configurations.proofs.Demand.{demanded}
-use Rattle.bargewicker.specs.Questions.{loop-with, present-right}
-use Rattle.bargewicker.specs.Numbers.{Answered}
-use Rattle.bargewicker.specs.Answers.{loop-numbers}
-use Rattle.bargewicker.specs.Demands.{LoopsRight, Demand3}
-use Rattle.bargewicker.specs.declared.LoopAnswer.{LoopAnswer}
-use Rattle.bargewicker.specs.declared.LoopAnswer.the-variants as L
-use Rattle.bargewicker.proofs.BufferLaws.{answer-free, answer-loop}
+use Rattle.model.specs.Replies.{Reply, give, told-as, numbers, buffer-after}
+use Rattle.model.specs.Answers.{loop-numbers}
+use Rattle.model.specs.declared.Loops.the-variants.{Loop, Free}
+use Rattle.model.specs.declared.LoopAnswer.{LoopAnswer}
+use Rattle.model.specs.declared.LoopAnswer.the-variants as L
+use Rattle.model.proofs.ReplyLaws.{answered}
+use Rattle.sheet.proofs.AskedLaws.{asked}
+use Rattle.loops.specs.LoopQuestion.{bytes-of-loops, reply-loop}
+use Rattle.loops.proofs.LoopQuestionLaws.{loop-given}
+use Rattle.bargewicker.specs.Questions.{looped, loop-with, reply}
+use Rattle.bargewicker.specs.Numbers.{values}
+use Rattle.bargewicker.specs.Promises.{Promised}
+use Rattle.bargewicker.specs.Demands.{LoopsRight, Demand3, AskedLoop}
 use Rattle.bargewicker.proofs.Unique.{unique}
 
-module _ (b : List ℕ) (present : ℕ) (out : List ℕ) (bytes : Bytes b) (accepted : Accepted b) (right : present-right (class-of b) present ≡ true)
-    (few : name-count (class-of b) present ≤ 20) (room : 2 * name-count (class-of b) present ≤ length out)
-    (r : LoopAnswer) (final : List ℕ) (h : Answered (loop-with b present out) (loop-numbers r) final) where
+module _ (b : List ℕ) (present : ℕ) (out : List ℕ) (asked-so : AskedLoop b present out) (r : LoopAnswer) (final : List ℕ) (h : Promised (loop-with b present out) r final) where
+  -- the reply is the class's answer
+  given-reply : (a : Loops) → loop-answer (class-of b) present ≡ a → reply (loop-with b present out) ≡ give (looped a) (bytes-of-loops a)
+  unfolding reply
+  given-reply a e =
+      asked b (λ c. told-as looped (reply-loop c present out)) (asked-so .accepted)
+      ∙ ap (told-as looped) (loop-given (class-of b) present out (asked-so .bits) (asked-so .names) (asked-so .room) a e)
+
   pub demand-3 : Demand3 (class-of b) present out final r
-  demand-3 = go (loop-answer (class-of b) present) refl (demanded (class-of b) (sound b bytes accepted) present)
+  unfolding values bytes-of-loops
+  demand-3 = go (loop-answer (class-of b) present) refl (demanded (class-of b) (sound b (asked-so .bytes) (asked-so .accepted)) present)
     where
       go : (a : Loops) → loop-answer (class-of b) present ≡ a → Demanded (class-of b) present a → Demand3 (class-of b) present out final r
       go (free m) e D =
-          let (f, g) = unique .looping b present out r (L.Free m) final out h (answer-free b accepted present out right few room m (sym e) out refl) in
+          let (f, g) = unique (loop-with b present out) r (L.Given (Free m)) final out h (answered values (reply (loop-with b present out)) out (give (looped (free m)) []) (given-reply (free m) e) (0 ∷ 0 ∷ m ∷ []) out refl refl) in
           record {
             free-exactly-if = ((λ _. D .free-exactly-if .0 refl), λ _. (m, f));
             right = subst (LoopsRight (class-of b) present out final) (sym f) (D .right, g);
           }
       go (loop k q ks) e D =
-          let list : ks ≡ list-of (class-of b) present k = D .right .list in
-          let after : List ℕ = written (pairs (list-of (class-of b) present k)) out in
-          let (f, g) = unique .looping b present out r (L.Loop k (record { 0 = q })) final after h (answer-loop b accepted present out right few room k q (sym (e ∙ ap (loop k q) list)) after refl) in
+          let after : List ℕ = written (pairs ks) out in
+          let (f, g) = unique (loop-with b present out) r (L.Given (Loop k (record { 0 = q }))) final after h (answered values (reply (loop-with b present out)) out (give (looped (loop k q ks)) (pairs ks)) (given-reply (loop k q ks) e) (0 ∷ 1 ∷ k ∷ q ∷ []) after refl refl) in
           record {
             free-exactly-if = ((λ (m, z). absurd (clash (cc (sym f ∙ z)))), λ all. absurd (clash (cc (D .free-exactly-if .1 all))));
-            right = subst (LoopsRight (class-of b) present out final) (sym f) (ks, D .right, g ∙ ap (λ (x : List Child). written (pairs x) out) (sym list));
+            right = subst (LoopsRight (class-of b) present out final) (sym f) (ks, D .right, g);
           }

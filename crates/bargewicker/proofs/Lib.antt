@@ -1,13 +1,10 @@
 pub mod Computing
+pub mod QuestionLaws
+pub mod PlacingLaws
 pub mod PromiseLaws
+pub mod CommandLaws
 pub mod TableLaws
 pub mod Cases
-pub mod FaceLaws
-pub mod AskedLaws
-pub mod BufferLaws
-pub mod HandlingLaws
-pub mod PresentLaws
-pub mod LoopLaws
 pub mod Unique
 pub mod Demand1
 pub mod Demand2

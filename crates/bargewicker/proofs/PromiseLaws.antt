@@ -1,51 +1,57 @@
--- Laws of specs/Promises.antt: one promise for all five questions, and the one answer that each leaves.
+-- Laws about specs/Promises.antt: the promise of each question is met by a refusal, and by the answer that its reply gives.
 -- Assumes nothing.
 use Prim.Native.Nat.{ℕ}
-use mathlib.Core.Path.{_≡_, refl, sym, _∙_}
-use mathlib.Core.Bool.{Bool, true, false}
-use mathlib.Core.List.{List, []}
-use lib.Dec.{eqb, ltb}
+use mathlib.Core.Path.{_≡_, refl, sym, _∙_, ap}
+use mathlib.Core.List.{List, [], _∷_}
 use Rattle.model.specs.Tree.{Class}
-use Rattle.model.specs.Node.{own-states}
-use Rattle.sheet.specs.Rules.{refusal}
+use Rattle.model.specs.Node.{probe, phase}
+use Rattle.model.specs.Refusals.{number-of}
+use Rattle.model.specs.Values.{probed-values, phase-values}
+use Rattle.model.specs.Answers.{probed-as, phase-as}
+use Rattle.model.specs.Replies.{Reply, refuse, give, numbers, buffer-after}
+use Rattle.model.specs.Node as Tree
+use Rattle.model.specs.declared.Refusal.{Refusal}
+use Rattle.model.specs.declared.Probed.{Probed}
+use Rattle.model.specs.declared.Phase.{Phase}
+use Rattle.model.specs.declared.JudgeAnswer.the-variants as J
+use Rattle.model.specs.declared.ProbeAnswer.the-variants as P
+use Rattle.model.specs.declared.PhaseAnswer.the-variants as W
+use Rattle.model.proofs.ReplyLaws.{answered, answered-refused}
+use Rattle.sheet.specs.Rules.{Accepted}
 use Rattle.sheet.specs.Reading.{class-of}
-use Rattle.children.specs.ChildList.{list-right}
-use Rattle.bargewicker.specs.Questions.{Question, judge, probe-in, phase-from, command-in, loop-with, Answer, Reply, give, check, on-sheet, placed, reply, buffer-after}
-use Rattle.bargewicker.specs.Numbers.{numbers, Answered}
-use Rattle.bargewicker.specs.Promises.{AnswerTo, numbers-of, Promised}
-use Rattle.bargewicker.proofs.Unique.{unique}
+use Rattle.sheet.proofs.AskedLaws.{asked}
+use Rattle.children.specs.ChildList.{children-of}
+use Rattle.bargewicker.specs.Questions.{Question, judge, probe-in, phase-from, command-in, loop-with, Answer, accepted, probed, phased, placed, reply, lent}
+use Rattle.bargewicker.specs.Numbers.{values}
+use Rattle.bargewicker.specs.Promises.{AnswerTo, refusing, numbers-of, Promised}
 
--- what gives no bytes leaves no buffer where none is lent
-sheet-silent : (b : List ℕ) (rest : Class → Reply) → buffer-after (rest (class-of b)) [] ≡ [] → buffer-after (on-sheet b rest) [] ≡ []
-unfolding on-sheet
-sheet-silent b rest h = go (eqb (refusal b) 0)
-  where
-    go : (t : Bool) → buffer-after (check t (refusal b) (λ _. rest (class-of b))) [] ≡ []
-    go true = h
-    go false = refl
+-- the numbers of the answer that refuses
+pub refusing-numbers : (q : Question) (x : Refusal) → numbers-of q (refusing q x) ≡ number-of x ∷ []
+refusing-numbers (judge b) x = refl
+refusing-numbers (probe-in b l q) x = refl
+refusing-numbers (phase-from b l q) x = refl
+refusing-numbers (command-in b l q m out) x = refl
+refusing-numbers (loop-with b present out) x = refl
 
-placed-silent : (b l : List ℕ) (q : ℕ) (a : Class → Answer) → buffer-after (placed b l q (λ c. give (a c) [])) [] ≡ []
-unfolding placed
-placed-silent b l q a = sheet-silent b _ (go (list-right (class-of b) l) (ltb q (own-states (class-of b))))
-  where
-    go : (t u : Bool) → buffer-after (check t 10 (λ _. check u 11 (λ _. give (a (class-of b)) []))) [] ≡ []
-    go true true = refl
-    go true false = refl
-    go false u = refl
+-- a refusal, with the buffer as it was, is promised where the rules refuse
+pub refused-so : (q : Question) (x : Refusal) → reply q ≡ refuse (number-of x) → (after : List ℕ) → after ≡ lent q → Promised q (refusing q x) after
+refused-so q x e after g = answered values (reply q) (lent q) (refuse (number-of x)) e (numbers-of q (refusing q x)) after (refusing-numbers q x) g
 
--- the promise of each question is that its numbers and its buffer are those of the rules
-pub answered-by : (q : Question) (r : AnswerTo q) (after : List ℕ) → Promised q r after → Answered q (numbers-of q r) after
-unfolding reply
-answered-by (judge b) r after h = record { numbers-are = h .0; buffer-is = h .1 ∙ sym (sheet-silent b _ refl) }
-answered-by (probe-in b l q) r after h = record { numbers-are = h .0; buffer-is = h .1 ∙ sym (placed-silent b l q _) }
-answered-by (phase-from b l q) r after h = record { numbers-are = h .0; buffer-is = h .1 ∙ sym (placed-silent b l q _) }
-answered-by (command-in b l q m out) r after h = h
-answered-by (loop-with b present out) r after h = h
+-- the judge accepts an accepted sheet
+pub judged-so : (b : List ℕ) → Accepted b → Promised (judge b) J.Accepted []
+unfolding reply values
+judged-so b a = answered values (reply (judge b)) [] (give accepted []) (asked b (λ c. give accepted []) a) (0 ∷ []) [] refl refl
 
--- two answers that have the numbers of a question are equal
-pub only-answer : (q : Question) (r s : AnswerTo q) → numbers-of q r ≡ numbers (reply q) → numbers-of q s ≡ numbers (reply q) → r ≡ s
-only-answer (judge b) r s f g = unique .judging b r s f g
-only-answer (probe-in b l q) r s f g = unique .probing b l q r s f g
-only-answer (phase-from b l q) r s f g = unique .phasing b l q r s f g
-only-answer (command-in b l q m out) r s f g = unique .commanding b l q m out r s _ _ (record { numbers-are = f; buffer-is = refl }) (record { numbers-are = g; buffer-is = refl }) .0
-only-answer (loop-with b present out) r s f g = unique .looping b present out r s _ _ (record { numbers-are = f; buffer-is = refl }) (record { numbers-are = g; buffer-is = refl }) .0
+-- the probe's and the when phase's answers, where the list and the state are right
+module _ (b l : List ℕ) (q : ℕ) (fits : (rest : Class → Reply Answer) → placed b l q rest ≡ rest (class-of b)) where
+  pub probed-so : (r : Probed) → probed-as r ≡ probe (class-of b) (children-of l) q → Promised (probe-in b l q) (P.Given r) []
+  unfolding reply values
+  probed-so r e =
+      answered values (reply (probe-in b l q)) [] (give (probed (probe (class-of b) (children-of l) q)) []) (fits (λ c. give (probed (probe c (children-of l) q)) []))
+      (0 ∷ probed-values (probed-as r)) [] (ap (λ (p : Tree.Probed). 0 ∷ probed-values p) e) refl
+
+  pub phased-so : (r : Phase) → phase-as r ≡ phase (class-of b) (children-of l) q → Promised (phase-from b l q) (W.Given r) []
+  unfolding reply values
+  phased-so r e =
+      answered values (reply (phase-from b l q)) [] (give (phased (phase (class-of b) (children-of l) q)) []) (fits (λ c. give (phased (phase c (children-of l) q)) []))
+      (0 ∷ phase-values (phase-as r)) [] (ap (λ (p : Tree.Phase). 0 ∷ phase-values p) e) refl

@@ -13,18 +13,26 @@ use Rattle.model.specs.Tree.{Class}
 use Rattle.model.specs.Node.{own-states}
 use Rattle.model.specs.Commands.{Sent, Handling, handled, ignored, command}
 use Rattle.model.proofs.Words.{and-left, and-right}
+use Rattle.model.specs.Replies.{Reply, refuse, give, check, told-as}
 use Rattle.sheet.specs.Rules.{refusal, refusal-in}
+use Rattle.sheet.specs.Asked.{on-sheet}
 use Rattle.sheet.specs.Reading.{class-of}
 use Rattle.children.specs.ChildList.{children-of, list-right, sent-bytes}
 use Rattle.configurations.specs.Configurations.{name-count}
-use Rattle.configurations.specs.LoopAnswer.{loop-answer}
-use Rattle.bargewicker.specs.Questions.{Question, judge, probe-in, phase-from, command-in, loop-with, Answer, commanded, looped, Reply, refuse, give, check, on-sheet, placed, reply, reply-command, reply-loop, present-right, bytes-of-handling, bytes-of-loops}
+use Rattle.configurations.specs.LoopAnswer.{Loops, loop-answer}
+use Rattle.loops.specs.LoopQuestion.{present-right, bytes-of-loops, reply-loop}
+use Rattle.bargewicker.specs.Questions.{Question, judge, probe-in, phase-from, command-in, loop-with, commanded, looped, placed, reply, reply-command, bytes-of-handling}
 use Rattle.bargewicker.specs.Table.{Check, rule, first-failed, body-checks, sheet-checks, place-checks, sent-by, command-checks, loop-checks, table}
 
 -- the number of a refusal, 0 of an answer
-abbrev pub refused-number : Reply → ℕ
+abbrev pub refused-number : {A : Type 0} → Reply A → ℕ
 refused-number (refuse n) = n
 refused-number (give a bytes) = 0
+
+-- an answer told in another type is refused as it was
+told-failed : {A B : Type 0} (f : A → B) (r : Reply A) → refused-number (told-as f r) ≡ refused-number r
+told-failed f (refuse n) = refl
+told-failed f (give a bytes) = refl
 
 -- a check has a number
 abbrev numbered : Check → Bool
@@ -55,20 +63,20 @@ unfolding sheet-checks body-checks every
 sheet-numbered b = refl
 
 -- a sheet's checks, then those of what is asked of it
-sheet-failed : (b : List ℕ) (rest : Class → Reply) (more : List Check) → refused-number (rest (class-of b)) ≡ first-failed more
+asked-failed : {A : Type 0} (b : List ℕ) (rest : Class → Reply A) (more : List Check) → refused-number (rest (class-of b)) ≡ first-failed more
     → refused-number (on-sheet b rest) ≡ first-failed (sheet-checks b ++ more)
 unfolding on-sheet
-sheet-failed b rest more h =
+asked-failed b rest more h =
     go (eqb (refusal b) 0) ∙ ap (λ (n : ℕ). choose (eqb n 0) (λ _. first-failed more) (λ _. n)) (sheet-failed b) ∙ sym (first-of-both (sheet-checks b) more (sheet-numbered b))
   where
     go : (t : Bool) → refused-number (check t (refusal b) (λ _. rest (class-of b))) ≡ choose t (λ _. first-failed more) (λ _. refusal b)
     go true = h
     go false = refl
 
-placed-failed : (b l : List ℕ) (q : ℕ) (rest : Class → Reply) (more : List Check) → refused-number (rest (class-of b)) ≡ first-failed more
+placed-failed : {A : Type 0} (b l : List ℕ) (q : ℕ) (rest : Class → Reply A) (more : List Check) → refused-number (rest (class-of b)) ≡ first-failed more
     → refused-number (placed b l q rest) ≡ first-failed (sheet-checks b ++ (place-checks (class-of b) l q ++ more))
 unfolding placed place-checks first-failed
-placed-failed b l q rest more h = sheet-failed b _ _ (go (list-right (class-of b) l) (ltb q (own-states (class-of b))))
+placed-failed b l q rest more h = asked-failed b _ _ (go (list-right (class-of b) l) (ltb q (own-states (class-of b))))
   where
     go : (t u : Bool) → refused-number (check t 10 (λ _. check u 11 (λ _. rest (class-of b)))) ≡ first-failed (rule 10 t ∷ rule 11 u ∷ more)
     go true true = h
@@ -90,10 +98,10 @@ command-failed : (c : Class) (l : List ℕ) (q m : ℕ) (out : List ℕ) → ref
 unfolding reply-command command-checks first-failed
 command-failed c l q m out =
     let h : Handling = command c (children-of l) q m in
-    go (leb m 63) (leb (length (bytes-of-handling h)) (length out)) (commanded h) (bytes-of-handling h)
+    go (leb m 63) (leb (length (bytes-of-handling h)) (length out)) h (bytes-of-handling h)
     ∙ ap (λ (n : ℕ). first-failed (rule 12 (leb m 63) ∷ rule 15 (leb n (length out)) ∷ [])) (room h)
   where
-    go : (t u : Bool) (a : Answer) (bytes : List ℕ) → refused-number (check t 12 (λ _. check u 15 (λ _. give a bytes))) ≡ first-failed (rule 12 t ∷ rule 15 u ∷ [])
+    go : (t u : Bool) (a : Handling) (bytes : List ℕ) → refused-number (check t 12 (λ _. check u 15 (λ _. give a bytes))) ≡ first-failed (rule 12 t ∷ rule 15 u ∷ [])
     go true true a bytes = refl
     go true false a bytes = refl
     go false u a bytes = refl
@@ -101,9 +109,9 @@ command-failed c l q m out =
 loop-failed : (c : Class) (present : ℕ) (out : List ℕ) → refused-number (reply-loop c present out) ≡ first-failed (loop-checks c present out)
 unfolding reply-loop loop-checks first-failed
 loop-failed c present out =
-    go (present-right c present) (leb (name-count c present) 20) (leb (2 * name-count c present) (length out)) (looped (loop-answer c present)) (bytes-of-loops (loop-answer c present))
+    go (present-right c present) (leb (name-count c present) 20) (leb (2 * name-count c present) (length out)) (loop-answer c present) (bytes-of-loops (loop-answer c present))
   where
-    go : (t u v : Bool) (a : Answer) (bytes : List ℕ) → refused-number (check t 13 (λ _. check u 14 (λ _. check v 15 (λ _. give a bytes))))
+    go : (t u v : Bool) (a : Loops) (bytes : List ℕ) → refused-number (check t 13 (λ _. check u 14 (λ _. check v 15 (λ _. give a bytes))))
         ≡ first-failed (rule 13 t ∷ rule 14 u ∷ rule 15 v ∷ [])
     go true true true a bytes = refl
     go true true false a bytes = refl
@@ -113,8 +121,8 @@ loop-failed c present out =
 -- whatever is asked
 pub failed : (q : Question) → refused-number (reply q) ≡ first-failed (table q)
 unfolding reply table sheet-checks body-checks place-checks first-failed
-failed (judge b) = sheet-failed b _ [] refl
+failed (judge b) = asked-failed b _ [] refl
 failed (probe-in b l q) = placed-failed b l q _ [] refl
 failed (phase-from b l q) = placed-failed b l q _ [] refl
-failed (command-in b l q m out) = placed-failed b l q _ (command-checks (class-of b) l q m out) (command-failed (class-of b) l q m out)
-failed (loop-with b present out) = sheet-failed b _ (loop-checks (class-of b) present out) (loop-failed (class-of b) present out)
+failed (command-in b l q m out) = placed-failed b l q _ (command-checks (class-of b) l q m out) (told-failed commanded (reply-command (class-of b) l q m out) ∙ command-failed (class-of b) l q m out)
+failed (loop-with b present out) = asked-failed b _ (loop-checks (class-of b) present out) (told-failed looped (reply-loop (class-of b) present out) ∙ loop-failed (class-of b) present out)

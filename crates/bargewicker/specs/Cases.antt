@@ -4,8 +4,9 @@ use Prim.Native.Nat.{ℕ}
 use mathlib.Core.Path.{_≡_}
 use mathlib.Core.List.{List, [], _∷_, map, List·Memᴰ}
 use lib.ListN.{set}
-use Rattle.bargewicker.specs.Questions.{Question, phase-from, command-in, loop-with, reply, lent, buffer-after}
-use Rattle.bargewicker.specs.Numbers.{numbers}
+use Rattle.model.specs.Replies.{buffer-after}
+use Rattle.bargewicker.specs.Questions.{Question, phase-from, command-in, loop-with, reply, lent}
+use Rattle.bargewicker.specs.Numbers.{numbers-for}
 use Rattle.bargewicker.specs.Promises.{AnswerTo, numbers-of, Promised}
 
 -- heaters (COLD 0, HOT 1, FAULT 2); READY 0: any heater not in HOT, move to HOLD; HOLD 1: any in HOT, move to READY
@@ -86,7 +87,7 @@ cases =
 
 -- what the rules give for the question of a case
 unfoldable pub given : Case → Case
-given e = asks (e .question) (numbers (reply (e .question))) (buffer-after (reply (e .question)) (lent (e .question)))
+given e = asks (e .question) (numbers-for (e .question)) (buffer-after (reply (e .question)) (lent (e .question)))
 
 -- every case of the table is what the rules give
 abbrev pub Worked : Type 0

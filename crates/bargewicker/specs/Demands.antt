@@ -1,5 +1,6 @@
 -- Demands 1, 2 and 3, of whatever meets the promises of the face (Promises.antt), on one page.
--- That each function of src/lib.rt meets its promise, for every input and with nothing asked of the caller, is what the check of this crate proves.
+-- That each function of src/lib.rt meets its promise, for every input and with nothing asked of the caller, is what the
+-- check of this crate proves.
 -- Assumes nothing.
 use Prim.Native.Nat.{ℕ, _*_, _<_, _≤_}
 use mathlib.Core.Path.{_≡_}
@@ -12,34 +13,35 @@ use Rattle.model.specs.Words.{maybe}
 use Rattle.model.specs.Tree.{Child, everyone, any-in, atom, Referrer, move-to, run, stay, When, Part, Class}
 use Rattle.model.specs.Guards.{holds}
 use Rattle.model.specs.Moves.{after, EndsAt, Ends}
-use Rattle.model.specs.Node.{own-states, state-of, command-of, next}
-use Rattle.model.specs.Commands.{run-part, clause-for}
+use Rattle.model.specs.Node.{own-states, state-of, Probed, nothing, found, Ending, by-none, by-stay, by-do, Phase, settled, loops, command-of, next}
+use Rattle.model.specs.Commands.{Ran, run-part, clause-for}
 use Rattle.model.specs.Refusals.{number-of}
+use Rattle.model.specs.Answers.{probed-as, phase-as}
+use Rattle.model.specs.Replies.{written}
 use Rattle.model.specs.declared.Refusal.{Refusal}
 use Rattle.model.specs.declared.Refusal.the-variants.{Room}
+use Rattle.model.specs.declared.Handling.the-variants.{Ignored, Handled}
+use Rattle.model.specs.declared.Loops.the-variants.{Loop, Free}
+use Rattle.model.specs.declared.JudgeAnswer.{JudgeAnswer}
+use Rattle.model.specs.declared.JudgeAnswer.the-variants as J
+use Rattle.model.specs.declared.ProbeAnswer.{ProbeAnswer}
+use Rattle.model.specs.declared.ProbeAnswer.the-variants as P
+use Rattle.model.specs.declared.PhaseAnswer.{PhaseAnswer}
+use Rattle.model.specs.declared.PhaseAnswer.the-variants as W
+use Rattle.model.specs.declared.CommandAnswer.{CommandAnswer}
+use Rattle.model.specs.declared.CommandAnswer.the-variants as C
+use Rattle.model.specs.declared.LoopAnswer.{LoopAnswer}
+use Rattle.model.specs.declared.LoopAnswer.the-variants as L
 use Rattle.bodies.specs.Bytes.{Bytes}
-use Rattle.model.specs.Answers.{referrer-as}
 use Rattle.sheet.specs.Rules.{Accepted}
 use Rattle.sheet.specs.Reading.{class-of}
 use Rattle.children.specs.ChildList.{children-of, list-right, pairs, sent-bytes}
-use Rattle.model.specs.Replies.{written}
-use Rattle.model.specs.declared.Ending.{Ending}
-use Rattle.model.specs.declared.Ending.the-variants.{ByNone, ByStay, ByDo}
 use Rattle.configurations.specs.Configurations.{name-count}
 use Rattle.configurations.specs.Demand.{AllEnd, FreeRight, LoopRight}
-use Rattle.bargewicker.specs.Questions.{Question, judge, probe-in, phase-from, command-in, loop-with, lent, present-right}
+use Rattle.loops.specs.LoopQuestion.{present-right}
+use Rattle.bargewicker.specs.Questions.{Question, judge, probe-in, phase-from, command-in, loop-with, lent}
 use Rattle.bargewicker.specs.Promises.{AnswerTo, refusing, Promised}
 use Rattle.bargewicker.specs.Table.{table, first-failed}
-use Rattle.bargewicker.specs.declared.JudgeAnswer.{JudgeAnswer}
-use Rattle.bargewicker.specs.declared.JudgeAnswer.the-variants as J
-use Rattle.bargewicker.specs.declared.ProbeAnswer.{ProbeAnswer}
-use Rattle.bargewicker.specs.declared.ProbeAnswer.the-variants as P
-use Rattle.bargewicker.specs.declared.PhaseAnswer.{PhaseAnswer}
-use Rattle.bargewicker.specs.declared.PhaseAnswer.the-variants as W
-use Rattle.bargewicker.specs.declared.CommandAnswer.{CommandAnswer}
-use Rattle.bargewicker.specs.declared.CommandAnswer.the-variants as C
-use Rattle.bargewicker.specs.declared.LoopAnswer.{LoopAnswer}
-use Rattle.bargewicker.specs.declared.LoopAnswer.the-variants as L
 
 -- DEMAND 1, of an answer r to the question q, and of the lent buffer after the call
 pub record Demand1 (q : Question) (r : AnswerTo q) (final : List ℕ) : Type 0 where
@@ -76,55 +78,91 @@ abbrev pub NoneTrue : Class → List Child → ℕ → Type 0
 NoneTrue c ks q = (i : ℕ) → i < length (state-of c q .whens) → holds (clause c q i .guard) ks ≡ false
 
 -- the probe: the first true clause of the state with its referrer and target, or none
+abbrev pub ProbedRight : Class → List Child → ℕ → Probed → Type 0
+ProbedRight c ks q (found i x) = First c ks q i x
+ProbedRight c ks q nothing = NoneTrue c ks q
+
 abbrev pub ProbeRight : Class → List Child → ℕ → ProbeAnswer → Type 0
-ProbeRight c ks q (P.Clause i x) = First c ks q i (referrer-as x)
-ProbeRight c ks q P.Nothing = NoneTrue c ks q
+ProbeRight c ks q (P.Given p) = ProbedRight c ks q (probed-as p)
 ProbeRight c ks q (P.Refused x) = ⊥
 
 -- a phase ends in state s where no clause is true, on STAY, or on DO, which names the command of its action clause
 abbrev pub Settles : Class → List Child → ℕ → Ending → Type 0
-Settles c ks s ByNone = NoneTrue c ks s
-Settles c ks s ByStay = (i : ℕ) × First c ks s i stay
-Settles c ks s (ByDo m) = (i : ℕ) × (a : ℕ) × First c ks s i (run a) × (a < length (state-of c s .actions)) × (command-of c s a ≡ m)
+Settles c ks s by-none = NoneTrue c ks s
+Settles c ks s by-stay = (i : ℕ) × First c ks s i stay
+Settles c ks s (by-do m) =
+    (i : ℕ) × (a : ℕ) × First c ks s i (run a) × (a < length (state-of c s .actions)) × (command-of c s a ≡ m)
 
--- the when phase: settled, where m moves lead to s and there it ends; or loop, where no number of moves ends it, with S moves and the state after them.
--- A move is made exactly where the first true clause is a MOVE_TO, to its target: `moving` below
+-- the when phase: settled, where m moves lead to s and there it ends; or loop, where no number of moves ends it,
+-- with S moves and the state after them. A move is made exactly where the first true clause is a MOVE_TO, to its
+-- target: `moving` below
+abbrev pub PhasedRight : Class → List Child → ℕ → Phase → Type 0
+PhasedRight c ks q (settled e s m) = EndsAt (next c ks) q m s × Settles c ks s e
+PhasedRight c ks q (loops s m) =
+    (Ends (next c ks) q → ⊥) × (m ≡ own-states c) × (after (next c ks) m q ≡ some s)
+
 abbrev pub PhaseRight : Class → List Child → ℕ → PhaseAnswer → Type 0
-PhaseRight c ks q (W.Settled e s m) = EndsAt (next c ks) q m (s .0) × Settles c ks (s .0) e
-PhaseRight c ks q (W.Loops s m) = (Ends (next c ks) q → ⊥) × (m ≡ own-states c) × (after (next c ks) m q ≡ some (s .0))
+PhaseRight c ks q (W.Given p) = PhasedRight c ks q (phase-as p)
 PhaseRight c ks q (W.Refused x) = ⊥
 
--- the command: ignored without a clause for it; else the clause p runs, and what it sends is written, three bytes each, if there is room for it
+-- the clause p runs: in state q it leaves the state s and sends what is written, three bytes for each command
+pub record Runs (p : Part) (ks : List Child) (q s n : ℕ) (out final : List ℕ) : Type 0 where
+  pub state : s ≡ maybe (run-part p ks .moved) (λ _. q) (λ t. t)
+  pub number : n ≡ 3 * length (run-part p ks .sent)
+  pub room : n ≤ length out
+  pub buffer : final ≡ written (sent-bytes (run-part p ks .sent)) out
+
+-- the command: ignored without a clause for it; else its clause runs, if there is room for what it sends
 abbrev pub CommandRight : Class → List Child → ℕ → ℕ → List ℕ → List ℕ → CommandAnswer → Type 0
-CommandRight c ks q m out final (C.Ignored s) = (clause-for m (state-of c q .actions) ≡ none) × (s .0 ≡ q) × (final ≡ out)
-CommandRight c ks q m out final (C.Handled s n) = (p : Part) × (clause-for m (state-of c q .actions) ≡ some p) × (s .0 ≡ maybe (run-part p ks .moved) (λ _. q) (λ t. t))
-    × (n ≡ 3 * length (run-part p ks .sent)) × (n ≤ length out) × (final ≡ written (sent-bytes (run-part p ks .sent)) out)
-CommandRight c ks q m out final (C.Refused x) = (x ≡ Room) × (p : Part) × (clause-for m (state-of c q .actions) ≡ some p) × (length out < 3 * length (run-part p ks .sent)) × (final ≡ out)
+CommandRight c ks q m out final (C.Given (Ignored s)) =
+    (clause-for m (state-of c q .actions) ≡ none) × (s .0 ≡ q) × (final ≡ out)
+CommandRight c ks q m out final (C.Given (Handled s n)) =
+    (p : Part) × (clause-for m (state-of c q .actions) ≡ some p) × Runs p ks q (s .0) n out final
+CommandRight c ks q m out final (C.Refused x) =
+    (x ≡ Room) × (p : Part) × (clause-for m (state-of c q .actions) ≡ some p)
+    × (length out < 3 * length (run-part p ks .sent)) × (final ≡ out)
 
 -- DEMAND 3: free, with nothing written; or loop, with its list ks written
 abbrev pub LoopsRight : Class → ℕ → List ℕ → List ℕ → LoopAnswer → Type 0
-LoopsRight c present out final (L.Free m) = FreeRight c present m × (final ≡ out)
-LoopsRight c present out final (L.Loop k q) = (ks : List Child) × LoopRight c present k (q .0) ks × (final ≡ written (pairs ks) out)
+LoopsRight c present out final (L.Given (Free m)) = FreeRight c present m × (final ≡ out)
+LoopsRight c present out final (L.Given (Loop k q)) =
+    (ks : List Child) × LoopRight c present k (q .0) ks × (final ≡ written (pairs ks) out)
 LoopsRight c present out final (L.Refused x) = ⊥
 
 pub record Demand3 (c : Class) (present : ℕ) (out final : List ℕ) (r : LoopAnswer) : Type 0 where
-  -- "free" exactly if, for every child list of any length in which exactly the present classes occur, the when phase ends from every state
-  pub free-exactly-if : ((m : ℕ) × (r ≡ L.Free m)) ↔ AllEnd c present
+  -- "free" exactly if, for every child list of any length in which exactly the present classes occur,
+  -- the when phase ends from every state
+  pub free-exactly-if : ((m : ℕ) × (r ≡ L.Given (Free m))) ↔ AllEnd c present
   -- then a number of moves that no such phase exceeds, that one reaches, and that is below the number of states;
   -- otherwise such a list and a state from which the node returns to that state with the children unchanged
   pub right : LoopsRight c present out final r
 
+-- an accepted sheet, present child classes with at most 20 names together, and enough room
+pub record AskedLoop (b : List ℕ) (present : ℕ) (out : List ℕ) : Type 0 where
+  pub bytes : Bytes b
+  pub accepted : Accepted b
+  pub bits : present-right (class-of b) present ≡ true
+  pub names : name-count (class-of b) present ≤ 20
+  pub room : 2 * name-count (class-of b) present ≤ length out
+
 -- THE DEMANDS, of any answer r and any content `final` of the lent buffer after the call that meet the promise
 pub record Demands : Type 0 where
-  -- 1: every byte string offered as a class sheet, child list or request; "accepted" is said exactly of the sheets that the others speak of
+  -- 1: every byte string offered as a class sheet, child list or request; "accepted" is said exactly of the sheets
+  -- that the others speak of
   pub demand1 : (q : Question) (r : AnswerTo q) (final : List ℕ) → Promised q r final → Demand1 q r final
-  pub accepted : (b : List ℕ) (r : JudgeAnswer) (final : List ℕ) → Promised (judge b) r final → (r ≡ J.Accepted) ↔ Accepted b
+  pub accepted : (b : List ℕ) (r : JudgeAnswer) (final : List ℕ) → Promised (judge b) r final
+      → (r ≡ J.Accepted) ↔ Accepted b
   -- 2: probing, the when phase and the handling of a command, for every accepted sheet, state, child list and command
-  pub probing : (b l : List ℕ) (q : ℕ) → Asked b l q → (r : ProbeAnswer) (final : List ℕ) → Promised (probe-in b l q) r final → ProbeRight (class-of b) (children-of l) q r
-  pub phasing : (b l : List ℕ) (q : ℕ) → Asked b l q → (r : PhaseAnswer) (final : List ℕ) → Promised (phase-from b l q) r final → PhaseRight (class-of b) (children-of l) q r
-  pub moving : (c : Class) (ks : List Child) (q t : ℕ) → (next c ks q ≡ some t) ↔ ((i : ℕ) × First c ks q i (move-to t))
+  pub probing : (b l : List ℕ) (q : ℕ) → Asked b l q → (r : ProbeAnswer) (final : List ℕ)
+      → Promised (probe-in b l q) r final → ProbeRight (class-of b) (children-of l) q r
+  pub phasing : (b l : List ℕ) (q : ℕ) → Asked b l q → (r : PhaseAnswer) (final : List ℕ)
+      → Promised (phase-from b l q) r final → PhaseRight (class-of b) (children-of l) q r
+  pub moving : (c : Class) (ks : List Child) (q t : ℕ)
+      → (next c ks q ≡ some t) ↔ ((i : ℕ) × First c ks q i (move-to t))
   pub commanding : (b l : List ℕ) (q m : ℕ) (out : List ℕ) → Asked b l q → m ≤ 63
-      → (r : CommandAnswer) (final : List ℕ) → Promised (command-in b l q m out) r final → CommandRight (class-of b) (children-of l) q m out final r
+      → (r : CommandAnswer) (final : List ℕ) → Promised (command-in b l q m out) r final
+      → CommandRight (class-of b) (children-of l) q m out final r
   -- 3: for an accepted sheet, present child classes with at most 20 names together, and enough room
-  pub demand3 : (b : List ℕ) (present : ℕ) (out : List ℕ) → Bytes b → Accepted b → present-right (class-of b) present ≡ true → name-count (class-of b) present ≤ 20 → 2 * name-count (class-of b) present ≤ length out
-      → (r : LoopAnswer) (final : List ℕ) → Promised (loop-with b present out) r final → Demand3 (class-of b) present out final r
+  pub demand3 : (b : List ℕ) (present : ℕ) (out : List ℕ) → AskedLoop b present out
+      → (r : LoopAnswer) (final : List ℕ) → Promised (loop-with b present out) r final
+      → Demand3 (class-of b) present out final r

@@ -1,7 +1,6 @@
 pub mod Questions
 pub mod Numbers
 pub mod Placing
-pub mod Answers
 pub mod Promises
 pub mod Cases
 pub mod Table

@@ -1,22 +1,22 @@
--- The promise of each function of the face, in the words of src/lib.rt, question by question.
+-- The promise of each function of the face. The functions' own contracts cite it: `Promised` is what src/lib.rt ensures.
 -- Assumes nothing.
-use mathlib.Core.Path.{_≡_}
-use mathlib.Core.List.{List, []}
 use Prim.Native.Nat.{ℕ}
+use mathlib.Core.List.{List}
+use Rattle.model.specs.Answers.{judge-numbers, probe-numbers, phase-numbers, command-numbers, loop-numbers}
+use Rattle.model.specs.Replies.{Answered}
 use Rattle.model.specs.declared.Refusal.{Refusal}
-use Rattle.bargewicker.specs.Questions.{Question, judge, probe-in, phase-from, command-in, loop-with, reply}
-use Rattle.bargewicker.specs.Numbers.{numbers, Answered}
-use Rattle.bargewicker.specs.Answers.{judge-numbers, probe-numbers, phase-numbers, command-numbers, loop-numbers}
-use Rattle.bargewicker.specs.declared.JudgeAnswer.{JudgeAnswer}
-use Rattle.bargewicker.specs.declared.JudgeAnswer.the-variants as J
-use Rattle.bargewicker.specs.declared.ProbeAnswer.{ProbeAnswer}
-use Rattle.bargewicker.specs.declared.ProbeAnswer.the-variants as P
-use Rattle.bargewicker.specs.declared.PhaseAnswer.{PhaseAnswer}
-use Rattle.bargewicker.specs.declared.PhaseAnswer.the-variants as W
-use Rattle.bargewicker.specs.declared.CommandAnswer.{CommandAnswer}
-use Rattle.bargewicker.specs.declared.CommandAnswer.the-variants as C
-use Rattle.bargewicker.specs.declared.LoopAnswer.{LoopAnswer}
-use Rattle.bargewicker.specs.declared.LoopAnswer.the-variants as L
+use Rattle.model.specs.declared.JudgeAnswer.{JudgeAnswer}
+use Rattle.model.specs.declared.JudgeAnswer.the-variants as J
+use Rattle.model.specs.declared.ProbeAnswer.{ProbeAnswer}
+use Rattle.model.specs.declared.ProbeAnswer.the-variants as P
+use Rattle.model.specs.declared.PhaseAnswer.{PhaseAnswer}
+use Rattle.model.specs.declared.PhaseAnswer.the-variants as W
+use Rattle.model.specs.declared.CommandAnswer.{CommandAnswer}
+use Rattle.model.specs.declared.CommandAnswer.the-variants as C
+use Rattle.model.specs.declared.LoopAnswer.{LoopAnswer}
+use Rattle.model.specs.declared.LoopAnswer.the-variants as L
+use Rattle.bargewicker.specs.Questions.{Question, judge, probe-in, phase-from, command-in, loop-with, reply, lent}
+use Rattle.bargewicker.specs.Numbers.{values}
 
 -- the type that a question is answered in
 abbrev pub AnswerTo : Question → Type 0
@@ -42,10 +42,7 @@ numbers-of (phase-from b l q) r = phase-numbers r
 numbers-of (command-in b l q m out) r = command-numbers r
 numbers-of (loop-with b present out) r = loop-numbers r
 
--- what is promised of the answer r and of the lent buffer after the call; where none is lent, none is left
+-- what is promised of the answer r and of the lent buffer after the call: both are those of the rules' reply.
+-- Where no buffer is lent, none is left
 abbrev pub Promised : (q : Question) → AnswerTo q → List ℕ → Type 0
-Promised (judge b) r after = (judge-numbers r ≡ numbers (reply (judge b))) × (after ≡ [])
-Promised (probe-in b l q) r after = (probe-numbers r ≡ numbers (reply (probe-in b l q))) × (after ≡ [])
-Promised (phase-from b l q) r after = (phase-numbers r ≡ numbers (reply (phase-from b l q))) × (after ≡ [])
-Promised (command-in b l q m out) r after = Answered (command-in b l q m out) (command-numbers r) after
-Promised (loop-with b present out) r after = Answered (loop-with b present out) (loop-numbers r) after
+Promised q r after = Answered values (reply q) (lent q) (numbers-of q r) after

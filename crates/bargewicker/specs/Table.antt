@@ -15,7 +15,8 @@ use Rattle.sheet.specs.Contents.{Bodies, bodies, length-right, contents-right}
 use Rattle.sheet.specs.Reading.{class-of}
 use Rattle.children.specs.ChildList.{children-of, list-right}
 use Rattle.configurations.specs.Configurations.{name-count}
-use Rattle.bargewicker.specs.Questions.{Question, judge, probe-in, phase-from, command-in, loop-with, present-right}
+use Rattle.loops.specs.LoopQuestion.{present-right}
+use Rattle.bargewicker.specs.Questions.{Question, judge, probe-in, phase-from, command-in, loop-with}
 
 -- a check: its number in the table, and whether the input passes it
 pub record Check : Type 0 where

@@ -5,3 +5,4 @@ pub mod ChaseLaws
 pub mod WalkLaws
 pub mod TableLaws
 pub mod SearchLaws
+pub mod LoopQuestionLaws

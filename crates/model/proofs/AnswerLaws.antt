@@ -74,7 +74,7 @@ same-phase (Looping q m) (Settled e r n) h = absurd (clash (cc))
 same-phase (Looping q m) (Looping r n) h = ap₂ Looping (same-state q r (cc)) (cc)
 
 -- the paper's values tell the tree's terms apart
-referrer-told : (r s : Tree.Referrer) → referrer-values r ≡ referrer-values s → r ≡ s
+pub referrer-told : (r s : Tree.Referrer) → referrer-values r ≡ referrer-values s → r ≡ s
 referrer-told (Tree.move-to t) (Tree.move-to u) e = ap Tree.move-to (cc)
 referrer-told (Tree.move-to t) (Tree.run b) e = absurd (clash (cc))
 referrer-told (Tree.move-to t) Tree.stay e = absurd (let z : _≡_ {A = ℕ} 0 2 = cc in omega arith)
@@ -85,7 +85,7 @@ referrer-told Tree.stay (Tree.move-to u) e = absurd (let z : _≡_ {A = ℕ} 0 2
 referrer-told Tree.stay (Tree.run b) e = absurd (let z : _≡_ {A = ℕ} 1 2 = cc in omega arith)
 referrer-told Tree.stay Tree.stay e = refl
 
-probed-told : (r s : Node.Probed) → probed-values r ≡ probed-values s → r ≡ s
+pub probed-told : (r s : Node.Probed) → probed-values r ≡ probed-values s → r ≡ s
 probed-told Node.nothing Node.nothing e = refl
 probed-told Node.nothing (Node.found j s) e = absurd (clash (cc))
 probed-told (Node.found i r) Node.nothing e = absurd (clash (cc))
@@ -112,19 +112,19 @@ not-loop Node.by-none q r m n e = let z : _≡_ {A = ℕ} 0 3 = cc in omega arit
 not-loop Node.by-stay q r m n e = let z : _≡_ {A = ℕ} 1 3 = cc in omega arith
 not-loop (Node.by-do a) q r m n e = let z : _≡_ {A = ℕ} 2 3 = cc in omega arith
 
-phase-told : (r s : Node.Phase) → phase-values r ≡ phase-values s → r ≡ s
+pub phase-told : (r s : Node.Phase) → phase-values r ≡ phase-values s → r ≡ s
 phase-told (Node.settled d q m) (Node.settled e r n) h = settled-told d e q r m n h
 phase-told (Node.settled d q m) (Node.loops r n) h = absurd (not-loop d q r m n h)
 phase-told (Node.loops q m) (Node.settled e r n) h = absurd (not-loop e r q n m (sym h))
 phase-told (Node.loops q m) (Node.loops r n) h = ap₂ Node.loops (cc) (cc)
 
-handled-told : (r s : Handling) → handled-values r ≡ handled-values s → r ≡ s
+pub handled-told : (r s : Handling) → handled-values r ≡ handled-values s → r ≡ s
 handled-told (Ignored q) (Ignored r) e = ap Ignored (same-state q r (cc))
 handled-told (Ignored q) (Handled r n) e = absurd (clash (cc))
 handled-told (Handled q m) (Ignored r) e = absurd (clash (cc))
 handled-told (Handled q m) (Handled r n) e = ap₂ Handled (same-state q r (cc)) (cc)
 
-looped-told : (r s : Loops) → looped-values r ≡ looped-values s → r ≡ s
+pub looped-told : (r s : Loops) → looped-values r ≡ looped-values s → r ≡ s
 looped-told (Loop k q) (Loop j r) e = ap₂ Loop (cc) (same-state q r (cc))
 looped-told (Loop k q) (Free m) e = absurd (clash (cc))
 looped-told (Free m) (Loop k q) e = absurd (clash (cc))

@@ -5,22 +5,27 @@ use mathlib.Core.Path.{_≡_, refl}
 use lib.ListN.{length}
 use Rattle.model.specs.Tree.{Class}
 use Rattle.sheet.specs.Reading.{class-of}
+use Rattle.model.specs.Replies.{Reply}
 use Rattle.children.proofs.ListLaws.{list-short}
-use Rattle.bargewicker.specs.Questions.{Reply, placed, reply}
-use Rattle.bargewicker.proofs.AskedLaws.{not-fitting, fitting, right-list, crew}
-use Rattle.bargewicker.proofs.BufferLaws.{answered-refused, answer-over}
-use Rattle.bargewicker.proofs.HandlingLaws.{done-ignored, done-handled, done-short}
+use Rattle.bargewicker.specs.Questions.{Answer, command-in, placed, reply}
+use Rattle.bargewicker.proofs.PlacingLaws.{not-fitting, fitting, right-list, crew}
+use Rattle.bargewicker.proofs.PromiseLaws.{refused-so}
+use Rattle.bargewicker.proofs.CommandLaws.{answer-over, done-ignored, done-handled, done-short}
 use borrow.Author.Needs.{needs}
 use Rattle.bargewicker.proofs.command_in.Statement.{statement}
 use Rattle.bargewicker.proofs.command_in.Tie as tie
 
 returns : tie.Need-returns
 unfolding reply
-returns c = answered-refused _ _ (not-fitting _ _ (c .before .before .before .before .before .before .before .pre) _ _ _ (c .before .before .before .place .ensures) _ (c .before .placing .given .1) _) _ refl
+returns c =
+    let p = c .before .before .before in
+    let a = p .before .before .before .before .args in
+    refused-so (command-in (a .sheet .now) (a .children .now) (a .state) (a .command) (a .out .now)) (c .before .placing .given .0 .0)
+    (not-fitting _ _ (p .before .before .before .before .pre) _ _ _ (p .place .ensures) _ (c .before .placing .given .1) _) _ refl
 
 -- the list and the state are right
 fits : (c : tie.After-enum-told) → let a = c .before .before .before .before .before .before .args in
-    (rest : Class → Reply) → placed (a .sheet .now) (a .children .now) (a .state) rest ≡ rest (class-of (a .sheet .now))
+    (rest : Class → Reply Answer) → placed (a .sheet .now) (a .children .now) (a .state) rest ≡ rest (class-of (a .sheet .now))
 fits c = fitting _ _ (c .before .before .before .before .before .before .pre) _ _ _ (c .before .before .place .ensures) (c .enum-told .given .1)
 
 returns-2 : tie.Need-returns-2
@@ -36,7 +41,7 @@ handle-requires c κs =
     (s .pre, (crew _ _ (s .pre) _ _ _ e t _ n (o .occupy .ensures), list-short _ (s .pre .accepted) _ (right-list _ _ (s .pre) _ _ _ e t)))
 
 returns-3 : tie.Need-returns-3
-returns-3 c = done-ignored _ _ _ _ _ (fits (c .before .before .before .before .before .before .before .before)) (omega arith) _ _ (c .before .before .before .before .handle .ensures) (c .enum-told2 .given .1)
+returns-3 c = done-ignored _ _ _ _ _ (fits (c .before .before .before .before .before .before .before .before)) (omega arith) _ _ (c .before .before .before .before .handle .ensures) (record { 0 = c .before .before .before .before .before .before .before .before .before .before .before .before .before .before .args .state }) refl (c .enum-told2 .given .1)
 
 returns-4 : tie.Need-returns-4
 returns-4 c = done-handled _ _ _ _ _ (fits (c .before .before .before .before .before .before .before .before .before)) (omega arith) _ _ (c .before .before .before .before .before .handle .ensures) _ _ (c .before .handling .given .1)

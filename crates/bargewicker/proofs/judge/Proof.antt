@@ -1,22 +1,22 @@
--- `judge` passes the judge's answer on.
+-- `judge` passes the judge's verdict on.
 -- Assumes nothing.
-use mathlib.Core.Path.{sym, ap}
-use mathlib.Core.List.{[]}
-use Rattle.bargewicker.specs.Questions.{reply, give, accepted}
-use Rattle.bargewicker.specs.Numbers.{numbers, values}
-use Rattle.bargewicker.proofs.FaceLaws.{asked}
-use Rattle.bargewicker.proofs.AskedLaws.{stands, refused-too}
+use mathlib.Core.Path.{refl}
+use Rattle.sheet.proofs.AskedLaws.{stands, refused-too}
+use Rattle.bargewicker.specs.Questions.{judge, reply}
+use Rattle.bargewicker.proofs.PromiseLaws.{refused-so, judged-so}
 use borrow.Author.Needs.{needs}
 use Rattle.bargewicker.proofs.judge.Statement.{statement}
 use Rattle.bargewicker.proofs.judge.Tie as tie
 
 returns : tie.Need-returns
-unfolding reply numbers values
-returns c = sym (ap numbers (asked _ (λ x. give accepted []) (stands _ _ (c .before .before .judge .ensures) _ (c .enum-told .given .1) .accepted)))
+returns c = judged-so _ (stands _ _ (c .before .before .judge .ensures) _ (c .enum-told .given .1) .accepted)
 
 returns-2 : tie.Need-returns-2
-unfolding reply numbers
-returns-2 c = sym (ap numbers (refused-too _ _ (c .before .before .before .judge .ensures) _ (c .before .verdict .given .1) (λ x. give accepted [])))
+unfolding reply
+returns-2 c =
+    let v = c .before in
+    let a = v .before .before .before .before .args in
+    refused-so (judge (a .sheet .now)) (v .verdict .given .0 .0) (refused-too _ _ (v .before .before .judge .ensures) _ (v .verdict .given .1) _) _ refl
 
 pub judge-spec : {M : Type 1} → statement M
 judge-spec = tie.close (tie.spec (λ c κs. search needs) (λ c. search needs) (λ c. search needs) returns returns-2)

@@ -1,6 +1,6 @@
 -- `place`: the checks of the child list and of the asked state are the paper's 10 and 11.
 -- Assumes nothing.
-use Rattle.bargewicker.proofs.AskedLaws.{classes-short, place-10, place-11, place-0}
+use Rattle.bargewicker.proofs.PlacingLaws.{classes-short, place-10, place-11, place-0}
 use borrow.Author.Needs.{needs}
 use Rattle.bargewicker.proofs.place.Statement.{statement}
 use Rattle.bargewicker.proofs.place.Tie as tie
