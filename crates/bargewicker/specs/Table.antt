@@ -1,4 +1,5 @@
--- The paper's table of refusals: the checks that each question meets, in order. The words above a rule say when it is broken.
+-- The paper's table of refusals: the checks that each question meets, in order. The words above a check are the table's: its
+-- number is given exactly when they are so, and the check is passed when they are not.
 -- Assumes nothing.
 use Prim.Native.Nat.{ℕ, _*_}
 use mathlib.Core.Bool.{Bool}
@@ -34,35 +35,35 @@ first-failed (c ∷ rest) = choose (c .passed) (λ _. first-failed rest) (λ _. 
 -- the sheet's bodies
 unfoldable pub body-checks : Bodies → List Check
 body-checks s =
-    -- a child class with an empty set
+    -- given when: a child class with an empty set
     rule 3 (classes-right (s .classes)) ∷
-    -- when or action counts of the states do not sum to W or A
+    -- given when: when or action counts of the states do not sum to W or A
     rule 4 (counts-right (s .states) (in-fours (s .whens)) (in-fours (s .actions))) ∷
-    -- a guard record breaks its layout
+    -- given when: a guard record breaks its layout
     rule 5 (records-right (in-fours (s .classes)) (s .guards)) ∷
-    -- a when clause's guard begins past the end, runs past it, or is too deep
+    -- given when: a when clause's guard begins past the end, runs past it, or is too deep
     rule 6 (guards-right (s .guards) (s .whens)) ∷
-    -- referrer over 2 or a wrong target
+    -- given when: referrer over 2 or a wrong target
     rule 7 (targets-right (s .states) (s .whens)) ∷
-    -- action clause: command, zero byte, repeat in a state, statement counts not summing to T
+    -- given when: action clause: command, zero byte, repeat in a state, statement counts not summing to T
     rule 8 (actions-right (s .states) (s .actions) (in-eights (s .statements))) ∷
-    -- a statement breaks its layout, its part or depth, or an if's guard breaks rule 6
+    -- given when: a statement breaks its layout, its part or depth, or an if's guard breaks rule 6
     rule 9 (statements-right (in-fours (s .classes)) (in-fours (s .states)) (s .guards) (s .actions) (s .statements)) ∷ []
 
 -- the sheet
 unfoldable pub sheet-checks : List ℕ → List Check
 sheet-checks b =
-    -- sheet under 24 or over 18,616 bytes
+    -- given when: sheet under 24 or over 18,616 bytes
     rule 1 (length-right b) ∷
-    -- contents: starts, end, a length that is no whole number of records, a count outside the table
+    -- given when: contents: starts, end, a length that is no whole number of records, a count outside the table
     rule 2 (contents-right b) ∷ body-checks (bodies b)
 
 -- the child list and the asked state
 unfoldable pub place-checks : Class → List ℕ → ℕ → List Check
 place-checks c l q =
-    -- child list odd, over 4,096 children, class not below K, name not in its class
+    -- given when: child list odd, over 4,096 children, class not below K, name not in its class
     rule 10 (list-right c l) ∷
-    -- asked state not below S
+    -- given when: asked state not below S
     rule 11 (ltb q (own-states c)) ∷ []
 
 -- the commands that a handling sends
@@ -73,19 +74,19 @@ sent-by (ignored q) = []
 -- the asked command, and the room for what it sends
 unfoldable pub command-checks : Class → List ℕ → ℕ → ℕ → List ℕ → List Check
 command-checks c l q m out =
-    -- asked command over 63
+    -- given when: asked command over 63
     rule 12 (leb m 63) ∷
-    -- buffer too short: under the room needed, three bytes for each command sent
+    -- given when: buffer too short: under the room needed, three bytes for each command sent
     rule 15 (leb (3 * length (sent-by (command c (children-of l) q m))) (length out)) ∷ []
 
 -- the present classes, their names, and the room for a list
 unfoldable pub loop-checks : Class → ℕ → List ℕ → List Check
 loop-checks c present out =
-    -- a present bit not below K
+    -- given when: a present bit not below K
     rule 13 (present-right c present) ∷
-    -- N over 20
+    -- given when: N over 20
     rule 14 (leb (name-count c present) 20) ∷
-    -- buffer too short: under 2N bytes
+    -- given when: buffer too short: under 2N bytes
     rule 15 (leb (2 * name-count c present) (length out)) ∷ []
 
 -- the checks of each question

@@ -9,7 +9,8 @@ use mathlib.Core.Logic.{_⊎_, inl, inr}
 use lib.ListN.{length, getD, take, drop, length-take, List·getD-eq-default}
 use lib.Seq.{getD-take, getD-drop, drop-drop}
 use Rattle.model.proofs.Words.{lt-or-le}
-use Rattle.bodies.specs.Bytes.{Bytes, byte, u16, u32, records}
+use Rattle.bodies.specs.Bytes.{byte, u16, u32, records}
+use Rattle.model.specs.Words.{Bytes}
 
 -- a number of two bytes is below 65,536
 pub u16-below : (b : List ℕ) → Bytes b → (at : ℕ) → u16 b at < 65536

@@ -1,12 +1,8 @@
 -- Numbers in a byte string: unsigned, low byte first. Past the end every byte is 0.
 -- Assumes nothing.
-use Prim.Native.Nat.{ℕ, zero, suc, _+_, _*_, _<_}
+use Prim.Native.Nat.{ℕ, zero, suc, _+_, _*_}
 use mathlib.Core.List.{List, [], _∷_}
 use lib.ListN.{getD, take, drop}
-
--- a byte string: each number is below 256
-abbrev pub Bytes : List ℕ → Type 0
-Bytes b = (i : ℕ) → getD b i 0 < 256
 
 abbrev pub byte : List ℕ → ℕ → ℕ
 byte b at = getD b at 0

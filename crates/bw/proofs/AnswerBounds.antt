@@ -19,7 +19,7 @@ use Rattle.model.specs.Sound.{ReferrerRight, statement-within, part-within}
 use Rattle.model.proofs.Words.{clash, and-left, and-right}
 use Rattle.model.proofs.Moves.{after-within}
 use Rattle.model.proofs.NodeLaws.{getD-mem, probe-found, next-within}
-use Rattle.bodies.specs.Bytes.{Bytes}
+use Rattle.model.specs.Words.{Bytes}
 use Rattle.bodies.specs.Clauses.{in-eights, referrer-of}
 use Rattle.bodies.proofs.Bytes.{u16-below}
 use Rattle.sheet.specs.Contents.{bodies}

@@ -13,7 +13,7 @@ use Rattle.model.specs.Tree.{Child, move-to, run, stay, Class}
 use Rattle.model.specs.Node.{own-states, Probed, nothing, found, probe, by-none, by-stay, by-do, Phase, settled, loops, phase}
 use Rattle.model.specs.Commands.{Handling, handled, ignored, command}
 use Rattle.model.proofs.NodeLaws.{phase-settled, phase-loops}
-use Rattle.bodies.specs.Bytes.{Bytes}
+use Rattle.model.specs.Words.{Bytes}
 use Rattle.bodies.proofs.Branches.{choose-case}
 use Rattle.sheet.specs.Rules.{refusal, Accepted}
 use Rattle.sheet.specs.Reading.{class-of}

@@ -6,7 +6,7 @@ use mathlib.Core.List.{List, [], _∷_, map}
 use lib.Dec.{eqb}
 use lib.ListN.{getD}
 use Rattle.model.specs.Words.{choose}
-use Rattle.bodies.specs.Bytes.{Bytes}
+use Rattle.model.specs.Words.{Bytes}
 use Rattle.bargewicker.specs.Questions.{Question, judge, probe-in, phase-from, command-in, loop-with, lent, reply, buffer-after}
 use Rattle.bargewicker.specs.Numbers.{numbers}
 

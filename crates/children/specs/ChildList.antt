@@ -15,7 +15,7 @@ children-of [] = []
 children-of (class ∷ []) = []
 children-of (class ∷ name ∷ rest) = record { class = class; name = name } ∷ children-of rest
 
--- 10: child list odd, over 4,096 children, class not below K, name not in its class
+-- no refusal 10: an even number of bytes, at most 4,096 children, each of a class below K with a name in its class
 unfoldable pub list-right : Class → List ℕ → Bool
 list-right c l = eqb (length l % 2) 0 && (leb (length l) (2 * 4096) && every (in-class c) (children-of l))
 

@@ -14,7 +14,7 @@ use Rattle.model.specs.Node.{own-states, first-true, probe, turn-for, Turn, sto
 use Rattle.model.specs.declared.OwnState.{OwnState}
 use Rattle.model.proofs.Words.{lt-or-le}
 use Rattle.model.proofs.NodeLaws.{stops-next, moves-next, next-within}
-use Rattle.bodies.specs.Bytes.{Bytes}
+use Rattle.model.specs.Words.{Bytes}
 use Rattle.sheet.specs.Contents.{body, bodies}
 use Rattle.bodies.specs.Clauses.{in-fours}
 use Rattle.sheet.specs.Reading.{class-of}

@@ -1,10 +1,11 @@
 -- The few words on tests, numbers and lists that the definitions of the paper are written in.
 -- Assumes nothing.
-use Prim.Native.Nat.{ℕ, zero, suc, _+_, _/_, _%_, _^_, max}
+use Prim.Native.Nat.{ℕ, zero, suc, _+_, _/_, _%_, _^_, _<_, max}
 use mathlib.Core.Bool.{Bool, true, false, _&&_, _||_}
 use mathlib.Core.List.{List, [], _∷_}
 use mathlib.Core.Option.{Option, none, some}
 use lib.Dec.{eqb}
+use lib.ListN.{getD}
 
 -- the first if the test holds, else the second; neither is computed before the test
 abbrev pub choose {ℓ} : {A : Type ℓ} → Bool → (Unit {0} → A) → (Unit {0} → A) → A
@@ -73,3 +74,7 @@ total (suc n) f = total n f + f n
 -- bit n of s: in a name set, that name n is in it
 unfoldable pub has : ℕ → ℕ → Bool
 has s n = eqb (s / 2 ^ n % 2) 1
+
+-- a byte string: each number is below 256
+abbrev pub Bytes : List ℕ → Type 0
+Bytes b = (i : ℕ) → getD b i 0 < 256

@@ -11,7 +11,7 @@ use lib.ListN.{length, drop, length-take, length-drop}
 use borrow.Author.Tests.{eqb-true, leb-true}
 use Rattle.model.specs.Words.{each}
 use Rattle.model.proofs.Words.{and-left, and-right, each-elim}
-use Rattle.bodies.specs.Bytes.{Bytes}
+use Rattle.model.specs.Words.{Bytes}
 use Rattle.sheet.specs.Contents.{record-bytes, fewest, most, start, size, body, length-right, bodies-follow, count-right, counts-in-range, contents-right, Bodies, bodies}
 use Rattle.bodies.specs.Clauses.{in-fours, in-eights}
 use Rattle.bodies.proofs.Bytes.{take-bytes, drop-bytes}

@@ -15,7 +15,7 @@ use Rattle.model.specs.Node.{own-states, state-of}
 use Rattle.model.specs.Crews.{child-classes}
 use Rattle.model.specs.Sound.{Sound, ReferrerRight, part-within}
 use Rattle.model.proofs.Words.{each-elim}
-use Rattle.bodies.specs.Bytes.{Bytes}
+use Rattle.model.specs.Words.{Bytes}
 use Rattle.sheet.specs.Contents.{Bodies, bodies}
 use Rattle.bodies.specs.Clauses.{in-fours, name-set, when-count, action-count, first-when, first-action, referrer-number, target, body-of, statements-of, referrer-of}
 use Rattle.sheet.specs.Rules.{Accepted}
