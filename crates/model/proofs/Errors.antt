@@ -1,5 +1,6 @@
 -- Errors a reader would forgive at first sight, each contradicted by one closed statement.
 -- Assumes nothing.
+use Prim.Native.Nat.{ℕ}
 use mathlib.Core.Path.{_≡_, refl}
 use mathlib.Core.Bool.{true}
 use mathlib.Core.List.{List, [], _∷_}
@@ -9,6 +10,7 @@ use Rattle.model.specs.Guards.{holds}
 use Rattle.model.specs.Moves.{Returns}
 use Rattle.model.specs.Node.{found, probe, next, loops, phase}
 use Rattle.model.specs.Commands.{sent-to, run-part}
+use Rattle.model.specs.Replies.{refuse, give, buffer-after}
 use Rattle.model.proofs.Computing.{computing}
 
 -- a heater in COLD (name 0) and one in HOT (name 1), both of class 0
@@ -59,3 +61,7 @@ place-in-list = refl
 pub move-ends-clause : run-part (branch (atom any-not-in everyone 2) (go-to 1 then end) end then send 5 everyone then end) heater-and-pump ≡ record { sent = []; moved = some 1 }
 unfolding computing heater-and-pump
 move-ends-clause = refl
+
+-- what is given is written at the buffer's head, and the bytes behind it are kept; a refusal leaves the buffer as it was
+pub buffers : (buffer-after {A = ℕ} (give 0 (1 ∷ 2 ∷ [])) (7 ∷ 8 ∷ 9 ∷ []) ≡ 1 ∷ 2 ∷ 9 ∷ []) × (buffer-after {A = ℕ} (refuse 15) (7 ∷ 8 ∷ []) ≡ 7 ∷ 8 ∷ [])
+buffers = (refl, refl)

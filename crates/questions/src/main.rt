@@ -13,15 +13,15 @@ use texts::writing::append_bytes;
 ghost use Rattle.io.specs.Counts.{Counts};
 ghost use Rattle.questions.specs.Inputs.{Inside};
 
-// How far the input is taken: the next byte of the chunk, the chunk's bytes, the bytes of the line held so far; and whether it is over.
+// How far the input is taken: the next byte of the chunk, the chunk's bytes, the bytes of the line so far, which wait for its end; and whether it is over.
 pub struct Input {
     pub at: usize,
     pub end: usize,
-    pub held: usize,
+    pub waiting: usize,
     pub over: bool,
 }
 
-// Answers a line, of which at most one byte too many is held.
+// Answers a line, of which at most one byte too many was taken.
 fn respond(line: &[u8], out: &mut [u8]) -> bool {
     let end = answer(line, out);
     let stop = append_byte(out, end, b'\n');
@@ -29,27 +29,27 @@ fn respond(line: &[u8], out: &mut [u8]) -> bool {
 }
 
 // The next chunk. Where there is none, the input is over, and a last line may have ended with no line feed.
-fn refill(held: usize, chunk: &mut [u8], line: &[u8], out: &mut [u8]) -> Input
-    requires { ⌜ Counts held (now line) ⌝ }
+fn refill(waiting: usize, chunk: &mut [u8], line: &[u8], out: &mut [u8]) -> Input
+    requires { ⌜ Counts waiting (now line) ⌝ }
     ensures { λ r. ⌜ Inside r (now (chunk .exit)) (now (line .entry)) ⌝ }
 {
     let got = libc::read(STDIN_FILENO, chunk);
     let n = io::count(got, chunk);
     if n == 0 {
-        if 0 < held {
-            respond(&line[..held], out);
+        if 0 < waiting {
+            respond(&line[..waiting], out);
         }
         return Input {
             at: 0,
             end: 0,
-            held: 0,
+            waiting: 0,
             over: true,
         };
     }
     Input {
         at: 0,
         end: n,
-        held,
+        waiting,
         over: false,
     }
 }
@@ -61,17 +61,17 @@ fn turn(s: Input, chunk: &mut [u8], line: &mut [u8], out: &mut [u8]) -> Input
 {
     let at = s.at;
     let end = s.end;
-    let held = s.held;
+    let waiting = s.waiting;
     if at == end {
-        return refill(held, chunk, line, out);
+        return refill(waiting, chunk, line, out);
     }
     let stop = find(&chunk[..end], at, b'\n');
-    let taken = append_bytes(line, held, &chunk[at..stop]);
+    let taken = append_bytes(line, waiting, &chunk[at..stop]);
     if stop == end {
         return Input {
             at: end,
             end,
-            held: taken,
+            waiting: taken,
             over: false,
         };
     }
@@ -79,7 +79,7 @@ fn turn(s: Input, chunk: &mut [u8], line: &mut [u8], out: &mut [u8]) -> Input
     Input {
         at: stop + 1,
         end,
-        held: 0,
+        waiting: 0,
         over: !written,
     }
 }
@@ -92,7 +92,7 @@ fn main() {
     let mut s = Input {
         at: 0,
         end: 0,
-        held: 0,
+        waiting: 0,
         over: false,
     };
     let mut turns = u64::MAX;

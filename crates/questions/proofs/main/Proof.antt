@@ -16,8 +16,8 @@ zeros : (n : ℕ) → n ≡ length (replicate {A = ℕ} n 0)
 zeros n = sym (length-replicate {A = ℕ} n 0)
 
 -- before the first turn
-nothing-taken : (chunk line : List ℕ) → Inside (record { at = 0; end = 0; held = 0; over = false }) chunk line
-nothing-taken chunk line = record { ahead = omega arith; taken = (omega arith, refl); held = (omega arith, refl) }
+nothing-taken : (chunk line : List ℕ) → Inside (record { at = 0; end = 0; waiting = 0; over = false }) chunk line
+nothing-taken chunk line = record { ahead = omega arith; taken = (omega arith, refl); waiting = (omega arith, refl) }
 
 abbrev Inv-loop : tie.InvT-loop
 Inv-loop chunk₀ line₀ out₀ s₀ turns₀ chunk line out s turns =
