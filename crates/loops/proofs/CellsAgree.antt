@@ -83,7 +83,7 @@ module _ (b : List ℕ) (p : Places) (stands : Stands b p) (present : ℕ) where
       go (inl l) =
           present-here (j / 32) (j % 32) l ∙ ap (λ (x : ℕ). has present (j / 32) && has x (j % 32)) (sym (names-are (j / 32) l))
           ∙ sym (belongs-here j (let x = classes-are in omega arith))
-      go (inr l) = cell-past (body b 0) present (j / 32) (j % 32) l ∙ sym (belongs-past j (let x = classes-are in omega arith))
+      go (inr l) = cell-past (body b 0) present (j / 32) (j % 32) (in-fours (body b 0)) refl l ∙ sym (belongs-past j (let x = classes-are in omega arith))
 
   pub cells-agree : present-cells (body b 0) present ≡ cells (class-of b) present
   unfolding present-among cells

@@ -17,9 +17,9 @@ use Rattle.loops.specs.declared.chase.Found.the-variants.{Loop, Longest}
 use Rattle.loops.specs.declared.search.Answer.{Answer}
 use Rattle.loops.specs.declared.search.Answer.the-variants.{Loop as LoopAt, Free}
 
--- the code holds the cells of the class, of which there are at most 20, and only child classes of the sheet are present
-pub record Held (b : List ℕ) (present : ℕ) (r : Cells) : Type 0 where
-  pub held : cells-of r ≡ cells (class-of b) present
+-- the code has read the cells of the class, of which there are at most 20, and only child classes of the sheet are present
+pub record CellsOf (b : List ℕ) (present : ℕ) (r : Cells) : Type 0 where
+  pub own : cells-of r ≡ cells (class-of b) present
   pub few : r .count ≤ 20
   pub small : AllSmall r
   pub below : (i : ℕ) → has present i ≡ true → i < child-classes (class-of b)

@@ -16,7 +16,7 @@ ghost use Rattle.children.specs.ChildList.{pairs};
 ghost use Rattle.model.specs.Replies.{written};
 ghost use Rattle.configurations.specs.Configurations.{chosen};
 ghost use Rattle.loops.specs.Cells.{cells-of};
-ghost use Rattle.loops.specs.Search.{Held, Configured, Searched};
+ghost use Rattle.loops.specs.Search.{CellsOf, Configured, Searched};
 
 // The answer of the loop question.
 pub enum Answer {
@@ -26,7 +26,7 @@ pub enum Answer {
 
 // What configuration k has; Longest(0) where it is skipped.
 fn look_at(sheet: &[u8], p: Places, present: u8, cells: Cells, k: u32) -> Found
-    requires { ⌜ Stands (now sheet) p × (Held (now sheet) present cells) ⌝ }
+    requires { ⌜ Stands (now sheet) p × (CellsOf (now sheet) present cells) ⌝ }
     ensures { λ r. ⌜ Configured (now (sheet .entry)) present k r ⌝ }
 {
     let sets = spread(cells, k);
@@ -38,7 +38,7 @@ fn look_at(sheet: &[u8], p: Places, present: u8, cells: Cells, k: u32) -> Found
 
 // The smallest configuration with a loop and the smallest own state there, or the largest number of moves.
 pub fn search(sheet: &[u8], p: Places, present: u8, cells: Cells) -> Answer
-    requires { ⌜ Stands (now sheet) p × (Held (now sheet) present cells) ⌝ }
+    requires { ⌜ Stands (now sheet) p × (CellsOf (now sheet) present cells) ⌝ }
     ensures { λ r. ⌜ Searched (now (sheet .entry)) present r ⌝ }
 {
     let n = cells.count;
