@@ -50,7 +50,7 @@ module _ {ℓ} {A : Type ℓ} (h : ℕ → A) where
   keep-none f i (suc n) e = rw (e i (omega arith)) (keep-none f (suc i) n (λ j l. e j (omega arith)))
 
 module _ (b : List ℕ) (p : Places) (stands : Stands b p) (present : ℕ) where
-  classes-are : child-classes (class-of b) ≡ in-fours (body b 0)
+  pub classes-are : child-classes (class-of b) ≡ in-fours (body b 0)
   unfolding class-of bodies
   classes-are = child-classes-in (bodies b)
 

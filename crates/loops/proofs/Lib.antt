@@ -1,3 +1,4 @@
+pub mod PresentLaws
 pub mod CellLaws
 pub mod SpreadLaws
 pub mod CellsAgree
@@ -5,3 +6,4 @@ pub mod ChaseLaws
 pub mod WalkLaws
 pub mod TableLaws
 pub mod SearchLaws
+pub mod LoopQuestionLaws

@@ -39,13 +39,13 @@ use Rattle.loops.specs.declared.cells.Cells.{Cells}
 use Rattle.loops.specs.declared.chase.Table.{Table}
 use Rattle.loops.specs.declared.chase.Found.{Found}
 use Rattle.loops.specs.declared.chase.Found.the-variants.{Loop, Longest}
-use Rattle.loops.specs.declared.search.Answer.the-variants.{Loop as LoopAt, Free}
 use Rattle.configurations.proofs.Configurations.{chosen-mem, belongs-low, mem-cells}
 use Rattle.loops.proofs.CellLaws.{present-small, twenty-all, twenty-small}
 use Rattle.loops.proofs.CellsAgree.{classes-most, cells-agree, counts-agree}
 use Rattle.loops.proofs.TableLaws.{phase-moves, states-are}
 use Rattle.loops.proofs.ChaseLaws.{Passing, passing-found}
 use Rattle.model.specs.declared.OwnState.{OwnState}
+use Rattle.model.specs.declared.Loops.the-variants.{Loop as LoopAt, Free}
 
 -- the cells that the code reads of an accepted sheet are those of its class, and their number is N, also where there are more than 20
 module _ (b : List ℕ) (p : Places) (stands : Stands b p) (present : ℕ) (r : Cells) (read : r ≡ first-twenty (present-cells (body b 0) present)) where

@@ -6,7 +6,7 @@ use crate::chase::Found;
 use crate::chase::chase_from;
 use crate::chase::tabulate;
 use accepted::readers::state_count;
-use model::OwnState;
+use model::Loops;
 use sheet::judging::Places;
 ghost use mathlib.Core.Path.{_≡_};
 ghost use Prim.Native.Nat.{_*_, _≤_};
@@ -17,12 +17,6 @@ ghost use Rattle.model.specs.Replies.{written};
 ghost use Rattle.configurations.specs.Configurations.{chosen};
 ghost use Rattle.loops.specs.Cells.{cells-of};
 ghost use Rattle.loops.specs.Search.{CellsOf, Configured, Searched};
-
-// The answer of the loop question.
-pub enum Answer {
-    Loop(u32, OwnState),
-    Free(usize),
-}
 
 // What configuration k has; Longest(0) where it is skipped.
 fn look_at(sheet: &[u8], p: Places, present: u8, cells: Cells, k: u32) -> Found
@@ -37,7 +31,7 @@ fn look_at(sheet: &[u8], p: Places, present: u8, cells: Cells, k: u32) -> Found
 }
 
 // The smallest configuration with a loop and the smallest own state there, or the largest number of moves.
-pub fn search(sheet: &[u8], p: Places, present: u8, cells: Cells) -> Answer
+pub fn search(sheet: &[u8], p: Places, present: u8, cells: Cells) -> Loops
     requires { ⌜ Stands (now sheet) p × (CellsOf (now sheet) present cells) ⌝ }
     ensures { λ r. ⌜ Searched (now (sheet .entry)) present r ⌝ }
 {
@@ -51,7 +45,7 @@ pub fn search(sheet: &[u8], p: Places, present: u8, cells: Cells) -> Answer
         next = next + 1;
         match found {
             Found::Loop(q) => {
-                return Answer::Loop(k, q);
+                return Loops::Loop(k, q);
             }
             Found::Longest(m) => {
                 if longest < m {
@@ -60,7 +54,7 @@ pub fn search(sheet: &[u8], p: Places, present: u8, cells: Cells) -> Answer
             }
         }
     }
-    Answer::Free(longest)
+    Loops::Free(longest)
 }
 
 // The list of a configuration, one child per set bit, in bit order, as pairs; what is behind them is kept.

@@ -9,4 +9,5 @@ pub mod NodeLaws
 pub mod Errors
 pub mod RefusalLaws
 pub mod AnswerLaws
+pub mod ReplyLaws
 pub mod Unique

@@ -1,0 +1,31 @@
+-- Laws about specs/Replies.antt: a reply that is known, and one told in another type.
+-- Assumes nothing.
+use Prim.Native.Nat.{ℕ}
+use mathlib.Core.Path.{_≡_, refl, sym, ap, _∙_}
+use mathlib.Core.List.{List, _∷_}
+use Rattle.model.specs.Replies.{Reply, refuse, give, told-as, numbers, buffer-after, Answered}
+
+-- a reply that is known is answered by its numbers, and leaves its buffer
+pub answered : {A : Type 0} (values : A → List ℕ) (reply r : Reply A) → reply ≡ r → (out after : List ℕ) → after ≡ buffer-after r out
+    → Answered values reply out (numbers values r) after
+answered {A} values reply r e out after f =
+    record { numbers-are = ap (numbers values) (sym e); buffer-is = f ∙ ap (λ (x : Reply A). buffer-after x out) (sym e) }
+
+-- a reply has one answer's numbers, and leaves one buffer
+pub answered-once : {A : Type 0} (values : A → List ℕ) (reply : Reply A) (out ns ms after rest : List ℕ)
+    → Answered values reply out ns after → Answered values reply out ms rest → (ns ≡ ms) × (after ≡ rest)
+answered-once values reply out ns ms after rest g h = (g .numbers-are ∙ sym (h .numbers-are), g .buffer-is ∙ sym (h .buffer-is))
+
+-- a reply told in another type, in which the values are the same, has the same numbers and leaves the same buffer
+module _ {A B : Type 0} (f : A → B) (values : A → List ℕ) (told-values : B → List ℕ) (same : (a : A) → told-values (f a) ≡ values a) where
+  told-numbers : (r : Reply A) → numbers told-values (told-as f r) ≡ numbers values r
+  told-numbers (refuse n) = refl
+  told-numbers (give a bytes) = ap (_∷_ 0) (same a)
+
+  told-buffer : (r : Reply A) (out : List ℕ) → buffer-after (told-as f r) out ≡ buffer-after r out
+  told-buffer (refuse n) out = refl
+  told-buffer (give a bytes) out = refl
+
+  pub answered-as : (r : Reply A) (out answer after : List ℕ) → Answered values r out answer after → Answered told-values (told-as f r) out answer after
+  answered-as r out answer after h =
+      record { numbers-are = h .numbers-are ∙ sym (told-numbers r); buffer-is = h .buffer-is ∙ sym (told-buffer r out) }
