@@ -12,7 +12,7 @@ use Rattle.model.specs.declared.OwnState.{OwnState}
 use Rattle.model.specs.declared.Refusal.the-variants.{AskedCommand, Room}
 use Rattle.model.specs.declared.Handling.the-variants.{Ignored, Handled}
 use Rattle.model.specs.declared.CommandAnswer.the-variants.{Given, Refused}
-use Rattle.model.proofs.ReplyLaws.{answered}
+use Rattle.model.proofs.ReplyLaws.{answered-by}
 use Rattle.sheet.specs.Reading.{class-of}
 use Rattle.children.specs.ChildList.{children-of, sent-bytes}
 use Rattle.commands.specs.Commands.{HandlesAs}
@@ -38,18 +38,18 @@ module _ (b l : List ℕ) (q m : ℕ) (out : List ℕ) (fits : (rest : Class →
         → Promised (command-in b l q m out) (Given (Ignored s)) after
     unfolding values handling-values bytes-of-handling
     answer-ignored s e after g =
-        answered values (reply (command-in b l q m out)) out (give (commanded (ignored (s .0))) [])
+        answered-by values (reply (command-in b l q m out)) (give (commanded (ignored (s .0))) [])
         (placed-command (give (ignored (s .0)) []) (command-given (class-of b) l q m out h (ignored (s .0)) e (omega arith)))
-        (0 ∷ 0 ∷ s .0 ∷ 0 ∷ []) after refl g
+        out (0 ∷ 0 ∷ s .0 ∷ 0 ∷ []) after refl g
 
     module _ (sent : List Sent) (s : ℕ) (e : command (class-of b) (children-of l) q m ≡ handled sent s) where
       pub answer-handled : (t : OwnState) → t .0 ≡ s → (n : ℕ) → n ≡ length (sent-bytes sent) → n ≤ length out → (after : List ℕ) → after ≡ sent-bytes sent ++ drop n out
           → Promised (command-in b l q m out) (Given (Handled t n)) after
       unfolding values handling-values bytes-of-handling
       answer-handled t z n f r after g =
-          answered values (reply (command-in b l q m out)) out (give (commanded (handled sent s)) (sent-bytes sent))
+          answered-by values (reply (command-in b l q m out)) (give (commanded (handled sent s)) (sent-bytes sent))
           (placed-command (give (handled sent s) (sent-bytes sent)) (command-given (class-of b) l q m out h (handled sent s) e (let k : length (sent-bytes sent) ≤ length out = omega arith in k)))
-          (0 ∷ 1 ∷ t .0 ∷ n ∷ []) after (rw (z, f)) (g ∙ ap (λ (x : ℕ). sent-bytes sent ++ drop x out) f)
+          out (0 ∷ 1 ∷ t .0 ∷ n ∷ []) after (rw (z, f)) (g ∙ ap (λ (x : ℕ). sent-bytes sent ++ drop x out) f)
 
       pub answer-short : length out < length (sent-bytes sent) → (after : List ℕ) → after ≡ out → Promised (command-in b l q m out) (Refused Room) after
       unfolding bytes-of-handling

@@ -19,7 +19,7 @@ use Rattle.model.specs.declared.LoopAnswer.the-variants as L
 use Rattle.model.proofs.ReplyLaws.{answered}
 use Rattle.sheet.proofs.AskedLaws.{asked}
 use Rattle.loops.specs.LoopQuestion.{bytes-of-loops, reply-loop}
-use Rattle.loops.proofs.LoopQuestionLaws.{loop-given}
+use Rattle.loops.proofs.LoopQuestionLaws.{given-reply as loop-reply}
 use Rattle.bargewicker.specs.Questions.{looped, loop-with, reply}
 use Rattle.bargewicker.specs.Numbers.{values}
 use Rattle.bargewicker.specs.Promises.{Promised}
@@ -32,7 +32,7 @@ module _ (b : List ℕ) (present : ℕ) (out : List ℕ) (asked-so : AskedLoop b
   unfolding reply
   given-reply a e =
       asked b (λ c. told-as looped (reply-loop c present out)) (asked-so .accepted)
-      ∙ ap (told-as looped) (loop-given (class-of b) present out (asked-so .bits) (asked-so .names) (asked-so .room) a e)
+      ∙ ap (told-as looped) (loop-reply (class-of b) present out (asked-so .bits) (asked-so .names) (asked-so .room) a (sym e))
 
   pub demand-3 : Demand3 (class-of b) present out final r
   unfolding values bytes-of-loops
@@ -40,14 +40,14 @@ module _ (b : List ℕ) (present : ℕ) (out : List ℕ) (asked-so : AskedLoop b
     where
       go : (a : Loops) → loop-answer (class-of b) present ≡ a → Demanded (class-of b) present a → Demand3 (class-of b) present out final r
       go (free m) e D =
-          let (f, g) = unique (loop-with b present out) r (L.Given (Free m)) final out h (answered values (reply (loop-with b present out)) out (give (looped (free m)) []) (given-reply (free m) e) (0 ∷ 0 ∷ m ∷ []) out refl refl) in
+          let (f, g) = unique (loop-with b present out) r (L.Given (Free m)) final out h (answered values (reply (loop-with b present out)) (give (looped (free m)) []) (given-reply (free m) e) out out refl) in
           record {
             free-exactly-if = ((λ _. D .free-exactly-if .0 refl), λ _. (m, f));
             right = subst (LoopsRight (class-of b) present out final) (sym f) (D .right, g);
           }
       go (loop k q ks) e D =
           let after : List ℕ = written (pairs ks) out in
-          let (f, g) = unique (loop-with b present out) r (L.Given (Loop k (record { 0 = q }))) final after h (answered values (reply (loop-with b present out)) out (give (looped (loop k q ks)) (pairs ks)) (given-reply (loop k q ks) e) (0 ∷ 1 ∷ k ∷ q ∷ []) after refl refl) in
+          let (f, g) = unique (loop-with b present out) r (L.Given (Loop k (record { 0 = q }))) final after h (answered values (reply (loop-with b present out)) (give (looped (loop k q ks)) (pairs ks)) (given-reply (loop k q ks) e) out after refl) in
           record {
             free-exactly-if = ((λ (m, z). absurd (clash (cc (sym f ∙ z)))), λ all. absurd (clash (cc (D .free-exactly-if .1 all))));
             right = subst (LoopsRight (class-of b) present out final) (sym f) (ks, D .right, g);

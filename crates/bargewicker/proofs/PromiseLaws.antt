@@ -7,8 +7,8 @@ use Rattle.model.specs.Tree.{Class}
 use Rattle.model.specs.Node.{probe, phase}
 use Rattle.model.specs.Refusals.{number-of}
 use Rattle.model.specs.Values.{probed-values, phase-values}
-use Rattle.model.specs.Answers.{probed-as, phase-as}
-use Rattle.model.specs.Replies.{Reply, refuse, give, numbers, buffer-after}
+use Rattle.model.specs.Answers.{probed-as, phase-as, loop-numbers}
+use Rattle.model.specs.Replies.{Reply, refuse, give, told-as, Answered}
 use Rattle.model.specs.Node as Tree
 use Rattle.model.specs.declared.Refusal.{Refusal}
 use Rattle.model.specs.declared.Probed.{Probed}
@@ -16,12 +16,14 @@ use Rattle.model.specs.declared.Phase.{Phase}
 use Rattle.model.specs.declared.JudgeAnswer.the-variants as J
 use Rattle.model.specs.declared.ProbeAnswer.the-variants as P
 use Rattle.model.specs.declared.PhaseAnswer.the-variants as W
-use Rattle.model.proofs.ReplyLaws.{answered, answered-refused}
+use Rattle.model.specs.declared.LoopAnswer.{LoopAnswer}
+use Rattle.model.proofs.ReplyLaws.{answered, answered-by, answered-as}
 use Rattle.sheet.specs.Rules.{Accepted}
 use Rattle.sheet.specs.Reading.{class-of}
 use Rattle.sheet.proofs.AskedLaws.{asked}
 use Rattle.children.specs.ChildList.{children-of}
-use Rattle.bargewicker.specs.Questions.{Question, judge, probe-in, phase-from, command-in, loop-with, Answer, accepted, probed, phased, placed, reply, lent}
+use Rattle.loops.specs.LoopQuestion.{loops-values, reply-loop}
+use Rattle.bargewicker.specs.Questions.{Question, judge, probe-in, phase-from, command-in, loop-with, Answer, accepted, probed, phased, looped, placed, reply, lent}
 use Rattle.bargewicker.specs.Numbers.{values}
 use Rattle.bargewicker.specs.Promises.{AnswerTo, refusing, numbers-of, Promised}
 
@@ -35,23 +37,30 @@ refusing-numbers (loop-with b present out) x = refl
 
 -- a refusal, with the buffer as it was, is promised where the rules refuse
 pub refused-so : (q : Question) (x : Refusal) → reply q ≡ refuse (number-of x) → (after : List ℕ) → after ≡ lent q → Promised q (refusing q x) after
-refused-so q x e after g = answered values (reply q) (lent q) (refuse (number-of x)) e (numbers-of q (refusing q x)) after (refusing-numbers q x) g
+refused-so q x e after g = answered-by values (reply q) (refuse (number-of x)) e (lent q) (numbers-of q (refusing q x)) after (refusing-numbers q x) g
 
 -- the judge accepts an accepted sheet
 pub judged-so : (b : List ℕ) → Accepted b → Promised (judge b) J.Accepted []
 unfolding reply values
-judged-so b a = answered values (reply (judge b)) [] (give accepted []) (asked b (λ c. give accepted []) a) (0 ∷ []) [] refl refl
+judged-so b a = answered values (reply (judge b)) (give accepted []) (asked b (λ c. give accepted []) a) [] [] refl
 
 -- the probe's and the when phase's answers, where the list and the state are right
 module _ (b l : List ℕ) (q : ℕ) (fits : (rest : Class → Reply Answer) → placed b l q rest ≡ rest (class-of b)) where
   pub probed-so : (r : Probed) → probed-as r ≡ probe (class-of b) (children-of l) q → Promised (probe-in b l q) (P.Given r) []
   unfolding reply values
   probed-so r e =
-      answered values (reply (probe-in b l q)) [] (give (probed (probe (class-of b) (children-of l) q)) []) (fits (λ c. give (probed (probe c (children-of l) q)) []))
+      answered-by values (reply (probe-in b l q)) (give (probed (probe (class-of b) (children-of l) q)) []) (fits (λ c. give (probed (probe c (children-of l) q)) [])) []
       (0 ∷ probed-values (probed-as r)) [] (ap (λ (p : Tree.Probed). 0 ∷ probed-values p) e) refl
 
   pub phased-so : (r : Phase) → phase-as r ≡ phase (class-of b) (children-of l) q → Promised (phase-from b l q) (W.Given r) []
   unfolding reply values
   phased-so r e =
-      answered values (reply (phase-from b l q)) [] (give (phased (phase (class-of b) (children-of l) q)) []) (fits (λ c. give (phased (phase c (children-of l) q)) []))
+      answered-by values (reply (phase-from b l q)) (give (phased (phase (class-of b) (children-of l) q)) []) (fits (λ c. give (phased (phase c (children-of l) q)) [])) []
       (0 ∷ phase-values (phase-as r)) [] (ap (λ (p : Tree.Phase). 0 ∷ phase-values p) e) refl
+
+-- the loop question's answer on the class of an accepted sheet
+pub looped-so : (b : List ℕ) (present : ℕ) (out : List ℕ) → Accepted b → (r : LoopAnswer) (after : List ℕ)
+    → Answered loops-values (reply-loop (class-of b) present out) out (loop-numbers r) after → Promised (loop-with b present out) r after
+unfolding reply values
+looped-so b present out a r after h =
+    rw (asked b (λ c. told-as looped (reply-loop c present out)) a) (answered-as looped loops-values values (λ _. refl) (reply-loop (class-of b) present out) out (loop-numbers r) after h)

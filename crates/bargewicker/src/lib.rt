@@ -6,9 +6,11 @@ use accepted::readers::state_count;
 use children::crews::occupy;
 use children::lists::list_ok;
 use commands::handle;
+use loops::asked::loop_with;
 use model::CommandAnswer;
 use model::Handling;
 use model::JudgeAnswer;
+use model::LoopAnswer;
 use model::OwnState;
 use model::PhaseAnswer;
 use model::ProbeAnswer;
@@ -19,7 +21,7 @@ ghost use mathlib.Core.Path.{_≡_};
 ghost use mathlib.Core.List.{[]};
 ghost use Rattle.sheet.specs.Verdict.{Stands};
 ghost use Rattle.sheet.specs.Reading.{class-of};
-ghost use Rattle.bargewicker.specs.Questions.{judge, probe-in, phase-from, command-in};
+ghost use Rattle.bargewicker.specs.Questions.{judge, probe-in, phase-from, command-in, loop-with};
 ghost use Rattle.bargewicker.specs.Promises.{Promised};
 ghost use Rattle.bargewicker.specs.Placing.{placed-refusal, placing-number};
 
@@ -70,6 +72,17 @@ pub fn command(
     match verdict {
         Verdict::Accepted(p) => command_in(sheet, p, children, state, command, out),
         Verdict::Refused(x) => CommandAnswer::Refused(x),
+    }
+}
+
+// Which states of children of the present classes can make the node loop, or how many moves does it make at most?
+pub fn loop_question(sheet: &[u8], present: u8, out: &mut [u8]) -> LoopAnswer
+    ensures { λ r. ⌜ Promised (loop-with (now (sheet .entry)) present (now (out .entry))) r (now (out .exit)) ⌝ }
+{
+    let verdict = sheet::judging::judge(sheet);
+    match verdict {
+        Verdict::Accepted(p) => loop_with(sheet, p, present, out),
+        Verdict::Refused(x) => LoopAnswer::Refused(x),
     }
 }
 

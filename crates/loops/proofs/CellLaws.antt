@@ -1,73 +1,85 @@
--- Laws about the cells: reading them.
+-- Laws about specs/Cells.antt: which cells are present, and the reading of the first twenty of them.
 -- Assumes nothing.
-use Prim.Native.Nat.{ℕ, zero, suc, _+_, _-_, _/_, _%_, _^_, _<_, _≤_}
+use Prim.Native.Nat.{ℕ, zero, suc, _+_, _/_, _%_, _^_, _<_, _≤_}
 use native.Mathlib.Omega.{arith}
 use native.Mathlib.Numerals.{add-one}
 use mathlib.Core.Path.{_≡_, refl, sym, ap, _∙_}
 use mathlib.Core.Bool.{Bool, true, false, _&&_}
-use mathlib.Core.List.{List, [], _∷_, _++_, append-nil}
+use mathlib.Core.List.{List, [], _∷_, _++_, append-nil, List·Memᴰ, List·Memᴰ·head, List·Memᴰ·tail}
+use mathlib.Core.Logic.{_⊎_, inl, inr}
 use lib.Dec.{eqb}
 use lib.Bits.{bitAnd}
 use lib.ListN.{length, getD, set, replicate, length-append, length-set}
-use lib.Seq.{getD-set-same, getD-set-other}
+use lib.Seq.{getD-append-seam, getD-set-same, getD-set-other, set-out, ext-getD}
 use borrow.Author.Tests.{lt-ltb, le-ltb}
 use Rattle.model.specs.Words.{has, kept, keep, listed}
 use Rattle.model.specs.Tree.{Child}
-use Rattle.model.proofs.Lists.{listed-more, keep-append, listed-same}
+use Rattle.model.specs.Unique.{LeavesOne}
+use Rattle.model.proofs.Words.{lt-or-le}
+use Rattle.model.proofs.Lists.{length-listed, getD-listed, getD-past, mem-listed, keep-mem, listed-more, keep-append, listed-same}
+use Rattle.model.proofs.Unique.{equations}
 use Rattle.bodies.specs.Clauses.{in-fours, name-set}
+use Rattle.children.specs.NameSets.{Small}
 use Rattle.children.proofs.CrewLaws.{shifted}
 use Rattle.configurations.specs.Configurations.{cell}
-use Rattle.loops.specs.Cells.{cell-present, held, present-among, CellsAre}
+use Rattle.loops.specs.Cells.{cell-present, cells-from, cells-of, present-among, present-cells, cell-at, first-twenty, AllSmall}
+use Rattle.loops.specs.declared.cells.Cells.{Cells}
 
--- a class that the sheet has not
-pub cell-past : (classes : List ℕ) (present i n : ℕ) → in-fours classes ≤ i → cell-present classes present i n ≡ false
+-- a class that the sheet has not, k being the number of its classes
+pub cell-past : (classes : List ℕ) (present i n k : ℕ) → k ≡ in-fours classes → k ≤ i → cell-present classes present i n ≡ false
 unfolding cell-present
-cell-past classes present i n l = rw (le-ltb i (in-fours classes) l)
+cell-past classes present i n k e l = rw (le-ltb i (in-fours classes) (omega arith))
 
 -- a class that it has: the class's bit and the name's
-pub cell-here : (classes : List ℕ) (present i n s : ℕ) (r : Bool) → i < in-fours classes → s ≡ name-set classes i → r ≡ has s n
+pub cell-here : (classes : List ℕ) (present i n k s : ℕ) (r : Bool) → k ≡ in-fours classes → i < k → s ≡ name-set classes i → r ≡ has s n
     → (eqb (bitAnd (present / 2 ^ i) 1) 1 && r) ≡ cell-present classes present i n
 unfolding cell-present
-cell-here classes present i n s r l e f = rw (shifted present i, lt-ltb i (in-fours classes) l, f, e)
+cell-here classes present i n k s r d l e f = rw (shifted present i, lt-ltb i (in-fours classes) (omega arith), f, e)
 
--- a store of a small number leaves small numbers
-pub set-small : (l : List ℕ) (i v b : ℕ) → v < b → ((k : ℕ) → getD l k 0 < b) → (k : ℕ) → getD (set l i v) k 0 < b
-set-small [] i v b p h k = h k
-set-small (x ∷ l) zero v b p h zero = p
-set-small (x ∷ l) zero v b p h (suc k) = h (suc k)
-set-small (x ∷ l) (suc i) v b p h zero = h zero
-set-small (x ∷ l) (suc i) v b p h (suc k) = set-small l i v b p (λ k. h (suc k)) k
+-- a store at one place of a list that is given by its entries
+module _ (n : ℕ) (f g : ℕ → ℕ) (k v : ℕ) (there : g k ≡ v) (others : (j : ℕ) → (j ≡ k → ⊥) → g j ≡ f j) where
+  entry-set : (j : ℕ) → j < n → (j < k) ⊎ (k ≤ j) → (k < j) ⊎ (j ≤ k) → getD (set (listed 0 n f) k v) j 0 ≡ g j
+  entry-set j l (inl u) w = getD-set-other (listed 0 n f) k j v 0 (λ e. omega arith) ∙ getD-listed 0 n f 0 j j l (omega arith) ∙ sym (others j (λ e. omega arith))
+  entry-set j l (inr u) (inl w) = getD-set-other (listed 0 n f) k j v 0 (λ e. omega arith) ∙ getD-listed 0 n f 0 j j l (omega arith) ∙ sym (others j (λ e. omega arith))
+  entry-set j l (inr u) (inr w) =
+      let e : j ≡ k = omega arith in
+      rw e (getD-set-same (listed 0 n f) k v 0 (let z = length-listed 0 n f in omega arith) ∙ sym there)
 
-pub zeros-small : (n b : ℕ) → 0 < b → (k : ℕ) → getD (replicate n 0) k 0 < b
-zeros-small zero b p k = p
-zeros-small (suc n) b p zero = p
-zeros-small (suc n) b p (suc k) = zeros-small n b p k
+  listed-set : set (listed 0 n f) k v ≡ listed 0 n g
+  listed-set =
+      let long : length (set (listed 0 n f) k v) ≡ n = length-set (listed 0 n f) k v ∙ length-listed 0 n f in
+      ext-getD 0 (set (listed 0 n f) k v) (listed 0 n g) (long ∙ sym (length-listed 0 n g))
+      (λ j l. entry-set j (omega arith) (lt-or-le j k) (lt-or-le k j) ∙ sym (getD-listed 0 n g 0 j j (omega arith) (omega arith)))
 
--- a cell more at the end
-held-more : (cs ns : List ℕ) (n v w : ℕ) → n < length cs → n < length ns
-    → held (set cs n v) (set ns n w) (n + 1) ≡ held cs ns n ++ (record { class = v; name = w } ∷ [])
-unfolding held
-held-more cs ns n v w l m = rw add-one (listed-more 0 n (at (set cs n v) (set ns n w)) ∙ ap (λ (k : List Child). k ++ (at (set cs n v) (set ns n w) (0 + n) ∷ [])) before ∙ ap (λ (k : Child). listed 0 n (at cs ns) ++ (k ∷ [])) last)
+-- a list with one cell more: it is behind the others, which are where they were
+at-other : (ks : List Child) (k : Child) (j : ℕ) → (j ≡ length ks → ⊥) → cell-at (ks ++ (k ∷ [])) j ≡ cell-at ks j
+at-other [] k zero h = absurd (h refl)
+at-other [] k (suc j) h = refl
+at-other (x ∷ ks) k zero h = refl
+at-other (x ∷ ks) k (suc j) h = at-other ks k j (λ e. h (ap suc e))
+
+at-end : (ks : List Child) (k : Child) → cell-at (ks ++ (k ∷ [])) (length ks) ≡ k
+at-end ks k = getD-append-seam ks k [] (record { class = 0; name = 0 })
+
+-- what the code makes of a cell more; past the twentieth nothing is stored
+abbrev with-cell : Cells → ℕ → ℕ → Cells
+with-cell r x y = record { classes = set (r .classes) (r .count) x; names = set (r .names) (r .count) y; count = r .count + 1 }
+
+twenty-more : (ks : List Child) (k : Child) → with-cell (first-twenty ks) (k .class) (k .name) ≡ first-twenty (ks ++ (k ∷ []))
+unfolding first-twenty
+twenty-more ks k = λ i. record { classes = classes i; names = names i; count = sym (length-append ks (k ∷ [])) i }
   where
-    at : List ℕ → List ℕ → ℕ → Child
-    at cs ns i = record { class = getD cs i 0; name = getD ns i 0 }
+    classes : set (listed 0 20 (λ i. cell-at ks i .class)) (length ks) (k .class) ≡ listed 0 20 (λ i. cell-at (ks ++ (k ∷ [])) i .class)
+    classes = listed-set 20 (λ i. cell-at ks i .class) (λ i. cell-at (ks ++ (k ∷ [])) i .class) (length ks) (k .class) (ap (λ (c : Child). c .class) (at-end ks k)) (λ j h. ap (λ (c : Child). c .class) (at-other ks k j h))
 
-    before : listed 0 n (at (set cs n v) (set ns n w)) ≡ listed 0 n (at cs ns)
-    before = listed-same 0 n (at (set cs n v) (set ns n w)) (at cs ns) (λ j u d. record { class = getD-set-other cs n j v 0 (λ e. omega arith) d; name = getD-set-other ns n j w 0 (λ e. omega arith) d })
-
-    last : at (set cs n v) (set ns n w) (0 + n) ≡ record { class = v; name = w }
-    last = let z : 0 + n ≡ n = omega arith in rw z (λ d. record { class = getD-set-same cs n v 0 l d; name = getD-set-same ns n w 0 m d })
+    names : set (listed 0 20 (λ i. cell-at ks i .name)) (length ks) (k .name) ≡ listed 0 20 (λ i. cell-at (ks ++ (k ∷ [])) i .name)
+    names = listed-set 20 (λ i. cell-at ks i .name) (λ i. cell-at (ks ++ (k ∷ [])) i .name) (length ks) (k .name) (ap (λ (c : Child). c .name) (at-end ks k)) (λ j h. ap (λ (c : Child). c .name) (at-other ks k j h))
 
 -- the reading of the cells after j pairs
 pub record Reading (classes : List ℕ) (present : ℕ) (cs ns : List ℕ) (count j : ℕ) : Type 0 where
   pub inside : j ≤ 256
   pub fewer : count ≤ j
-  pub twenty-classes : length cs ≡ 20
-  pub twenty-names : length ns ≡ 20
-  pub number : count ≡ length (present-among classes present j)
-  pub all : count ≤ 20 → held cs ns count ≡ present-among classes present j
-  pub classes-small : (i : ℕ) → getD cs i 0 < 8
-  pub names-small : (i : ℕ) → getD ns i 0 < 32
+  pub read : record { classes = cs; names = ns; count = count } ≡ first-twenty (present-among classes present j)
 
 module _ (classes : List ℕ) (present : ℕ) where
   -- one pair more, kept or not
@@ -78,28 +90,10 @@ module _ (classes : List ℕ) (present : ℕ) where
       let z : 0 + j ≡ j = omega arith in
       rw (add-one, listed-more 0 j cell, keep-append (λ k. cell-present classes present (k .class) (k .name)) (listed 0 j cell) (cell (0 + j) ∷ []), z, t)
 
-  among-more : (j : ℕ) → cell-present classes present (j / 32) (j % 32) ≡ true
-      → present-among classes present (j + 1) ≡ present-among classes present j ++ (cell j ∷ [])
-  among-more j t = among-next j true t
-
-  among-past : (j : ℕ) → cell-present classes present (j / 32) (j % 32) ≡ false
-      → present-among classes present (j + 1) ≡ present-among classes present j
-  among-past j t = among-next j false t ∙ append-nil (present-among classes present j)
-
   -- at first
   pub reading-start : Reading classes present (replicate 20 0) (replicate 20 0) 0 0
-  unfolding held present-among keep listed
-  reading-start =
-      record {
-        inside = omega arith;
-        fewer = omega arith;
-        twenty-classes = refl;
-        twenty-names = refl;
-        number = refl;
-        all = λ l. refl;
-        classes-small = zeros-small 20 8 (omega arith);
-        names-small = zeros-small 20 32 (omega arith);
-      }
+  unfolding first-twenty present-among keep listed
+  reading-start = record { inside = omega arith; fewer = omega arith; read = refl }
 
   -- the pair with number j, of a class x and a name y, is looked up
   module _ (cs ns : List ℕ) (count j : ℕ) (r : Reading classes present cs ns count j) (turn : j < 256) (x y : ℕ) (ex : x ≡ j / 32) (ey : y ≡ j % 32) (t : Bool) (e : t ≡ cell-present classes present x y) where
@@ -107,59 +101,86 @@ module _ (classes : List ℕ) (present : ℕ) where
     told f = rw (sym ex, sym ey) (sym e ∙ f)
 
     -- a pair that is present and has room
-    pub reading-more : t ≡ true → count < 20 → Reading classes present (set cs count x) (set ns count y) (count + 1) (j + 1)
+    pub reading-more : t ≡ true → Reading classes present (set cs count x) (set ns count y) (count + 1) (j + 1)
     unfolding cell
-    reading-more f l =
-        let m = among-more j (told f) in
-        rw (ex, ey)
-        (record {
-          inside = omega arith;
-          fewer = (let x = r .fewer in omega arith);
-          twenty-classes = length-set cs count (j / 32) ∙ r .twenty-classes;
-          twenty-names = length-set ns count (j % 32) ∙ r .twenty-names;
-          number = ap (λ (x : ℕ). x + 1) (r .number) ∙ sym (ap length m ∙ length-append (present-among classes present j) (cell j ∷ []));
-          all = λ u. held-more cs ns count (j / 32) (j % 32) (let x = r .twenty-classes in omega arith) (let x = r .twenty-names in omega arith) ∙ ap (λ (k : List Child). k ++ (cell j ∷ [])) (r .all (omega arith)) ∙ sym m;
-          classes-small = set-small cs count (j / 32) 8 (omega arith) (r .classes-small);
-          names-small = set-small ns count (j % 32) 32 (omega arith) (r .names-small);
-        })
-
-    -- a pair that is present, past the twentieth
-    pub reading-full : t ≡ true → 20 ≤ count → Reading classes present cs ns (count + 1) (j + 1)
-    reading-full f l =
-        let m = among-more j (told f) in
+    reading-more f =
         record {
           inside = omega arith;
           fewer = (let x = r .fewer in omega arith);
-          twenty-classes = r .twenty-classes;
-          twenty-names = r .twenty-names;
-          number = ap (λ (x : ℕ). x + 1) (r .number) ∙ sym (ap length m ∙ length-append (present-among classes present j) (cell j ∷ []));
-          all = λ u. absurd (omega arith);
-          classes-small = r .classes-small;
-          names-small = r .names-small;
+          read = ap (λ (c : Cells). with-cell c x y) (r .read) ∙ rw (ex, ey) (twenty-more (present-among classes present j) (cell j)) ∙ ap first-twenty (sym (among-next j true (told f)));
+        }
+
+    -- a pair that is present, past the twentieth
+    pub reading-full : t ≡ true → 20 ≤ count → Reading classes present cs ns (count + 1) (j + 1)
+    unfolding first-twenty
+    reading-full f l =
+        let long-classes : length cs ≤ count = (let z = ap (λ (c : Cells). length (c .classes)) (r .read) ∙ length-listed 0 20 (λ i. cell-at (present-among classes present j) i .class) in omega arith) in
+        let long-names : length ns ≤ count = (let z = ap (λ (c : Cells). length (c .names)) (r .read) ∙ length-listed 0 20 (λ i. cell-at (present-among classes present j) i .name) in omega arith) in
+        let more = reading-more f in
+        record {
+          inside = more .inside;
+          fewer = more .fewer;
+          read = (λ i. record { classes = sym (set-out cs count x long-classes) i; names = sym (set-out ns count y long-names) i; count = count + 1 }) ∙ more .read;
         }
 
     -- a pair that is not present
     pub reading-past : t ≡ false → Reading classes present cs ns count (j + 1)
     reading-past f =
-        let m = among-past j (told f) in
         record {
           inside = omega arith;
           fewer = (let x = r .fewer in omega arith);
-          twenty-classes = r .twenty-classes;
-          twenty-names = r .twenty-names;
-          number = r .number ∙ sym (ap length m);
-          all = λ u. r .all u ∙ sym m;
-          classes-small = r .classes-small;
-          names-small = r .names-small;
+          read = r .read ∙ ap first-twenty (sym (among-next j false (told f) ∙ append-nil (present-among classes present j)));
         }
 
   -- after all pairs
   pub reading-end : (cs ns : List ℕ) (count j : ℕ) → Reading classes present cs ns count j → 256 ≤ j
-      → CellsAre classes present (record { classes = cs; names = ns; count = count })
+      → record { classes = cs; names = ns; count = count } ≡ first-twenty (present-cells classes present)
   reading-end cs ns count j r l =
       let e : j ≡ 256 = (let x = r .inside in omega arith) in
-      record {
-        number = r .number ∙ ap (λ (x : ℕ). length (present-among classes present x)) e;
-        all = λ u. r .all u ∙ ap (present-among classes present) e;
-        small = record { class-small = r .classes-small; name-small = r .names-small };
-      }
+      r .read ∙ ap (λ (n : ℕ). first-twenty (present-among classes present n)) e
+
+  -- the promise of `read_cells` leaves one answer
+  pub one-reading : LeavesOne (λ (r : Cells). r ≡ first-twenty (present-cells classes present))
+  one-reading = equations .named (first-twenty (present-cells classes present))
+
+  -- a cell that is present is one of the 256 pairs
+  pub present-small : (k : Child) → List·Memᴰ k (present-cells classes present) → Small k
+  unfolding present-among cell
+  present-small k m =
+      let (j, low, high, e) = mem-listed 0 256 cell k (keep-mem (λ k. cell-present classes present (k .class) (k .name)) (listed 0 256 cell) k m .0) in
+      rw e (record { class-small = omega arith; name-small = omega arith })
+
+-- what is read of at most twenty cells is the cells
+module _ (ks : List Child) where
+  listed-all : listed 0 (length ks) (cell-at ks) ≡ ks
+  listed-all =
+      ext-getD (record { class = 0; name = 0 }) (listed 0 (length ks) (cell-at ks)) ks (length-listed 0 (length ks) (cell-at ks))
+      (λ j l. getD-listed 0 (length ks) (cell-at ks) (record { class = 0; name = 0 }) j j (let z = length-listed 0 (length ks) (cell-at ks) in omega arith) (omega arith))
+
+  pub twenty-all : length ks ≤ 20 → cells-of (first-twenty ks) ≡ ks
+  unfolding first-twenty cells-from
+  twenty-all l =
+      listed-same 0 (length ks) (λ i. record { class = getD (listed 0 20 (λ i. cell-at ks i .class)) i 0; name = getD (listed 0 20 (λ i. cell-at ks i .name)) i 0 }) (cell-at ks)
+      (λ j u d. record { class = getD-listed 0 20 (λ i. cell-at ks i .class) 0 j j (omega arith) (omega arith) d; name = getD-listed 0 20 (λ i. cell-at ks i .name) 0 j j (omega arith) (omega arith) d })
+      ∙ listed-all
+
+-- the numbers read of small cells are small
+at-small : (ks : List Child) → ((k : Child) → List·Memᴰ k ks → Small k) → (i : ℕ) → Small (cell-at ks i)
+at-small [] h i = record { class-small = omega arith; name-small = omega arith }
+at-small (k ∷ ks) h zero = h k (List·Memᴰ·head refl)
+at-small (k ∷ ks) h (suc i) = at-small ks (λ x m. h x (List·Memᴰ·tail m)) i
+
+entry-small : (n : ℕ) (f : ℕ → ℕ) (b : ℕ) → 0 < b → ((i : ℕ) → f i < b) → (i : ℕ) → getD (listed 0 n f) i 0 < b
+entry-small n f b p h i = go (lt-or-le i n)
+  where
+    go : (i < n) ⊎ (n ≤ i) → getD (listed 0 n f) i 0 < b
+    go (inl l) = rw (getD-listed 0 n f 0 i i l (omega arith)) (h i)
+    go (inr l) = rw (getD-past 0 n f 0 i l) p
+
+pub twenty-small : (ks : List Child) → ((k : Child) → List·Memᴰ k ks → Small k) → AllSmall (first-twenty ks)
+unfolding first-twenty
+twenty-small ks h =
+    record {
+      class-small = entry-small 20 (λ i. cell-at ks i .class) 8 (omega arith) (λ i. at-small ks h i .class-small);
+      name-small = entry-small 20 (λ i. cell-at ks i .name) 32 (omega arith) (λ i. at-small ks h i .name-small);
+    }

@@ -50,7 +50,7 @@ module _ {ℓ} {A : Type ℓ} (h : ℕ → A) where
   keep-none f i (suc n) e = rw (e i (omega arith)) (keep-none f (suc i) n (λ j l. e j (omega arith)))
 
 module _ (b : List ℕ) (p : Places) (stands : Stands b p) (present : ℕ) where
-  classes-are : child-classes (class-of b) ≡ in-fours (body b 0)
+  pub classes-are : child-classes (class-of b) ≡ in-fours (body b 0)
   unfolding class-of bodies
   classes-are = child-classes-in (bodies b)
 
@@ -83,7 +83,7 @@ module _ (b : List ℕ) (p : Places) (stands : Stands b p) (present : ℕ) where
       go (inl l) =
           present-here (j / 32) (j % 32) l ∙ ap (λ (x : ℕ). has present (j / 32) && has x (j % 32)) (sym (names-are (j / 32) l))
           ∙ sym (belongs-here j (let x = classes-are in omega arith))
-      go (inr l) = cell-past (body b 0) present (j / 32) (j % 32) l ∙ sym (belongs-past j (let x = classes-are in omega arith))
+      go (inr l) = cell-past (body b 0) present (j / 32) (j % 32) (in-fours (body b 0)) refl l ∙ sym (belongs-past j (let x = classes-are in omega arith))
 
   pub cells-agree : present-cells (body b 0) present ≡ cells (class-of b) present
   unfolding present-among cells

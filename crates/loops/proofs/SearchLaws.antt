@@ -32,43 +32,51 @@ use Rattle.model.proofs.Masks.{has-zero}
 use Rattle.children.proofs.CrewLaws.{shifted}
 use Rattle.configurations.specs.Configurations.{cells, name-count, chosen, list-of}
 use Rattle.configurations.specs.LoopAnswer.{free, returning, counts, has-loop, longest, longest-in, loop-answer}
-use Rattle.loops.specs.Cells.{held, CellsAre, Spreads, counts-on}
+use Rattle.loops.specs.Cells.{cells-from, cells-of, present-cells, first-twenty, Spreads, counts-on}
 use Rattle.loops.specs.Chase.{table-next, Tabulates, move-count, Chased}
-use Rattle.loops.specs.Search.{Held, Configured, Searched}
+use Rattle.loops.specs.Search.{CellsOf, Configured, Searched}
 use Rattle.loops.specs.declared.cells.Cells.{Cells}
 use Rattle.loops.specs.declared.chase.Table.{Table}
 use Rattle.loops.specs.declared.chase.Found.{Found}
 use Rattle.loops.specs.declared.chase.Found.the-variants.{Loop, Longest}
-use Rattle.loops.specs.declared.search.Answer.the-variants.{Loop as LoopAt, Free}
 use Rattle.configurations.proofs.Configurations.{chosen-mem, belongs-low, mem-cells}
+use Rattle.loops.proofs.CellLaws.{present-small, twenty-all, twenty-small}
 use Rattle.loops.proofs.CellsAgree.{classes-most, cells-agree, counts-agree}
 use Rattle.loops.proofs.TableLaws.{phase-moves, states-are}
 use Rattle.loops.proofs.ChaseLaws.{Passing, passing-found}
 use Rattle.model.specs.declared.OwnState.{OwnState}
+use Rattle.model.specs.declared.Loops.the-variants.{Loop as LoopAt, Free}
 
--- the code that has read the cells of an accepted sheet holds those of its class
-pub held-cells : (b : List ℕ) (p : Places) → Stands b p → (present : ℕ) (r : Cells) → CellsAre (body b 0) present r → r .count ≤ 20
-    → ((i : ℕ) → has present i ≡ true → i < child-classes (class-of b)) → Held b present r
-held-cells b p stands present r are few below =
-    record { held = are .all few ∙ cells-agree b p stands present; few = few; small = are .small; below = below }
+-- the cells that the code reads of an accepted sheet are those of its class, and their number is N, also where there are more than 20
+module _ (b : List ℕ) (p : Places) (stands : Stands b p) (present : ℕ) (r : Cells) (read : r ≡ first-twenty (present-cells (body b 0) present)) where
+  pub number-own : r .count ≡ name-count (class-of b) present
+  unfolding first-twenty
+  number-own = ap (λ (c : Cells). c .count) read ∙ ap length (cells-agree b p stands present)
 
--- and their number is the class's, also where there are more than 20
-pub number-held : (b : List ℕ) (p : Places) → Stands b p → (present : ℕ) (r : Cells) → CellsAre (body b 0) present r → r .count ≡ name-count (class-of b) present
-number-held b p stands present r are = are .number ∙ ap length (cells-agree b p stands present)
+  pub cells-own : r .count ≤ 20 → ((i : ℕ) → has present i ≡ true → i < child-classes (class-of b)) → CellsOf b present r
+  unfolding first-twenty
+  cells-own few below =
+      let n : r .count ≡ length (present-cells (body b 0) present) = ap (λ (c : Cells). c .count) read in
+      record {
+        own = ap cells-of read ∙ twenty-all (present-cells (body b 0) present) (omega arith) ∙ cells-agree b p stands present;
+        few = few;
+        small = rw read (twenty-small (present-cells (body b 0) present) (present-small (body b 0) present));
+        below = below;
+      }
 
-module _ (b : List ℕ) (p : Places) (stands : Stands b p) (present : ℕ) (r : Cells) (h : Held b present r) where
+module _ (b : List ℕ) (p : Places) (stands : Stands b p) (present : ℕ) (r : Cells) (h : CellsOf b present r) where
   -- there are 2 to the N configurations
   count-is : r .count ≡ name-count (class-of b) present
-  unfolding held
-  count-is = sym (length-listed 0 (r .count) (λ i. record { class = getD (r .classes) i 0; name = getD (r .names) i 0 })) ∙ ap length (h .held)
+  unfolding cells-from
+  count-is = sym (length-listed 0 (r .count) (λ i. record { class = getD (r .classes) i 0; name = getD (r .names) i 0 })) ∙ ap length (h .own)
 
   pub all-configurations : 1 * 2 ^ r .count % 2 ^ 32 ≡ 2 ^ name-count (class-of b) present
   all-configurations = shl-exact 1 (r .count) 32 (omega arith) (let x = h .few in omega arith) ∙ one-mul (2 ^ r .count) ∙ ap (λ (n : ℕ). 2 ^ n) count-is
 
-  module _ (k : ℕ) (sets : List ℕ) (s : Spreads sets (chosen (held (r .classes) (r .names) (r .count)) k)) where
+  module _ (k : ℕ) (sets : List ℕ) (s : Spreads sets (chosen (cells-from (r .classes) (r .names) (r .count)) k)) where
     spreads : Spreads sets (list-of (class-of b) present k)
     unfolding list-of
-    spreads = subst (λ (xs : List Child). Spreads sets (chosen xs k)) (h .held) s
+    spreads = subst (λ (xs : List Child). Spreads sets (chosen xs k)) (h .own) s
 
     small : (x : Child) → List·Memᴰ x (list-of (class-of b) present k) → Small x
     unfolding list-of
@@ -156,7 +164,7 @@ written-pair bytes out v w n e l = rw (add-one, e) (pair-behind bytes out v w (o
 
 -- the list of the first i cells, chosen by k, as pairs
 abbrev pub pairs-of : List ℕ → List ℕ → ℕ → ℕ → List ℕ
-pairs-of cs ns k i = pairs (chosen (held cs ns i) k)
+pairs-of cs ns k i = pairs (chosen (cells-from cs ns i) k)
 
 -- it is written at the head of the buffer, and the next pair goes behind it
 pub record Writing (cs ns : List ℕ) (n k : ℕ) (out₀ out : List ℕ) (place i : ℕ) : Type 0 where
@@ -169,12 +177,12 @@ pub record Writing (cs ns : List ℕ) (n k : ℕ) (out₀ out : List ℕ) (place
 
 module _ (cs ns : List ℕ) (n k : ℕ) (out₀ : List ℕ) where
   pub writing-start : 2 * n ≤ length out₀ → Writing cs ns n k out₀ out₀ 0 0
-  unfolding held listed chosen pairs
+  unfolding cells-from listed chosen pairs
   writing-start l = record { inside = omega arith; room = l; low = omega arith; behind = refl; content = refl; same = refl }
 
   -- one cell more
   pairs-next : (i : ℕ) (t : Bool) → has k i ≡ t → pairs-of cs ns k (i + 1) ≡ pairs-of cs ns k i ++ pairs (kept t (record { class = getD cs i 0; name = getD ns i 0 }) [])
-  unfolding held
+  unfolding cells-from
   pairs-next i t e =
       let z : 0 + i ≡ i = omega arith in
       rw (add-one, listed-more 0 i here, z, chosen-more (listed 0 i here) k (here i), length-listed 0 i here, e) (pairs-append (chosen (listed 0 i here) k) (kept t (here i) []))

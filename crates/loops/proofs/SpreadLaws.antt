@@ -1,11 +1,11 @@
 -- Laws about a configuration spread into sets, and when it is not skipped.
 -- Assumes nothing.
-use Prim.Native.Nat.{ℕ, suc, _+_, _-_, _/_, _^_, _<_, _≤_}
+use Prim.Native.Nat.{ℕ, zero, suc, _+_, _-_, _/_, _^_, _<_, _≤_}
 use native.Mathlib.Omega.{arith}
 use native.Mathlib.Numerals.{add-one}
 use mathlib.Core.Path.{_≡_, refl, sym, ap, _∙_, subst}
 use mathlib.Core.Bool.{Bool, true, false, _&&_, _||_, not}
-use mathlib.Core.List.{List}
+use mathlib.Core.List.{List, [], _∷_}
 use lib.Dec.{eqb}
 use lib.Bits.{bitAnd, bitOr}
 use lib.ListN.{length, getD, set, drop, replicate, getD-replicate, length-set, drop-of-length-le}
@@ -21,8 +21,20 @@ use Rattle.model.proofs.Bits.{has-none}
 use Rattle.children.specs.NameSets.{Shows}
 use Rattle.children.proofs.CrewLaws.{shifted, shows-more}
 use Rattle.configurations.specs.Configurations.{chosen}
-use Rattle.loops.specs.Cells.{held, Spreads, counts-on}
-use Rattle.loops.proofs.CellLaws.{set-small, zeros-small}
+use Rattle.loops.specs.Cells.{cells-from, Spreads, counts-on}
+
+-- a store of a small number leaves small numbers; zeros are small
+set-small : (l : List ℕ) (i v b : ℕ) → v < b → ((k : ℕ) → getD l k 0 < b) → (k : ℕ) → getD (set l i v) k 0 < b
+set-small [] i v b p h k = h k
+set-small (x ∷ l) zero v b p h zero = p
+set-small (x ∷ l) zero v b p h (suc k) = h (suc k)
+set-small (x ∷ l) (suc i) v b p h zero = h zero
+set-small (x ∷ l) (suc i) v b p h (suc k) = set-small l i v b p (λ k. h (suc k)) k
+
+zeros-small : (n b : ℕ) → 0 < b → (k : ℕ) → getD (replicate n 0) k 0 < b
+zeros-small zero b p k = p
+zeros-small (suc n) b p zero = p
+zeros-small (suc n) b p (suc k) = zeros-small n b p k
 
 -- what is chosen of a list from entry i on
 chosen-from : (xs : List Child) (k i : ℕ) (d : Child) → i < length xs
@@ -35,16 +47,16 @@ pub record Spreading (cs ns : List ℕ) (n k : ℕ) (sets : List ℕ) (i : ℕ) 
   pub inside : i ≤ n
   pub eight : length sets ≡ 8
   pub narrow : (j : ℕ) → getD sets j 0 < 2 ^ 32
-  pub shown : Shows sets (chosen (drop i (held cs ns n)) (k / 2 ^ i))
+  pub shown : Shows sets (chosen (drop i (cells-from cs ns n)) (k / 2 ^ i))
 
 module _ (cs ns : List ℕ) (n k : ℕ) where
-  length-held : length (held cs ns n) ≡ n
-  unfolding held
-  length-held = length-listed 0 n (λ i. record { class = getD cs i 0; name = getD ns i 0 })
+  length-from : length (cells-from cs ns n) ≡ n
+  unfolding cells-from
+  length-from = length-listed 0 n (λ i. record { class = getD cs i 0; name = getD ns i 0 })
 
-  at-held : (i : ℕ) (d : Child) → i < n → getD (held cs ns n) i d ≡ record { class = getD cs i 0; name = getD ns i 0 }
-  unfolding held
-  at-held i d l = getD-listed 0 n (λ i. record { class = getD cs i 0; name = getD ns i 0 }) d i i l (omega arith)
+  at-from : (i : ℕ) (d : Child) → i < n → getD (cells-from cs ns n) i d ≡ record { class = getD cs i 0; name = getD ns i 0 }
+  unfolding cells-from
+  at-from i d l = getD-listed 0 n (λ i. record { class = getD cs i 0; name = getD ns i 0 }) d i i l (omega arith)
 
   pub spreading-start : Spreading cs ns n k (replicate 8 0) n
   unfolding occupied some-in chosen
@@ -53,15 +65,15 @@ module _ (cs ns : List ℕ) (n k : ℕ) where
         inside = omega arith;
         eight = refl;
         narrow = zeros-small 8 (2 ^ 32) (omega arith);
-        shown = λ j m p q. rw (drop-of-length-le (held cs ns n) (let z : length (held cs ns n) ≤ n = (let x = length-held in omega arith) in z), getD-replicate {A = ℕ} 8 j 0 0 p) (has-none m);
+        shown = λ j m p q. rw (drop-of-length-le (cells-from cs ns n) (let z : length (cells-from cs ns n) ≤ n = (let x = length-from in omega arith) in z), getD-replicate {A = ℕ} 8 j 0 0 p) (has-none m);
       }
 
   module _ (sets : List ℕ) (i : ℕ) (s : Spreading cs ns n k sets i) (turn : 0 < i) where
-    step : chosen (drop (i - 1) (held cs ns n)) (k / 2 ^ (i - 1)) ≡ kept (has k (i - 1)) (record { class = getD cs (i - 1) 0; name = getD ns (i - 1) 0 }) (chosen (drop i (held cs ns n)) (k / 2 ^ i))
+    step : chosen (drop (i - 1) (cells-from cs ns n)) (k / 2 ^ (i - 1)) ≡ kept (has k (i - 1)) (record { class = getD cs (i - 1) 0; name = getD ns (i - 1) 0 }) (chosen (drop i (cells-from cs ns n)) (k / 2 ^ i))
     step =
         let z : suc (i - 1) ≡ i = omega arith in
         let d : Child = record { class = 0; name = 0 } in
-        rw (chosen-from (held cs ns n) k (i - 1) d (let x = length-held in let y = s .inside in omega arith), z, at-held (i - 1) d (let y = s .inside in omega arith))
+        rw (chosen-from (cells-from cs ns n) k (i - 1) d (let x = length-from in let y = s .inside in omega arith), z, at-from (i - 1) d (let y = s .inside in omega arith))
 
     pub spreading-more : (r : ℕ) → bitAnd (k / 2 ^ (i - 1)) 1 ≡ 1 → (x y : ℕ) → x ≡ getD cs (i - 1) 0 → y ≡ getD ns (i - 1) 0 → x < 8 → r ≡ bitOr (getD sets x 0) (2 ^ y) → r < 2 ^ 32
         → Spreading cs ns n k (set sets x r) (i - 1)
@@ -71,7 +83,7 @@ module _ (cs ns : List ℕ) (n k : ℕ) where
           inside = (let y = s .inside in omega arith);
           eight = length-set sets x r ∙ s .eight;
           narrow = set-small sets x r (2 ^ 32) u (s .narrow);
-          shown = rw (step, sym ex, sym ey, h, e) (shows-more sets (chosen (drop i (held cs ns n)) (k / 2 ^ i)) x y (let z = s .eight in omega arith) (s .shown));
+          shown = rw (step, sym ex, sym ey, h, e) (shows-more sets (chosen (drop i (cells-from cs ns n)) (k / 2 ^ i)) x y (let z = s .eight in omega arith) (s .shown));
         }
 
     pub spreading-past : (bitAnd (k / 2 ^ (i - 1)) 1 ≡ 1 → ⊥) → Spreading cs ns n k sets (i - 1)
@@ -79,14 +91,14 @@ module _ (cs ns : List ℕ) (n k : ℕ) where
         let h : has k (i - 1) ≡ false = sym (shifted k (i - 1)) ∙ ne-eqb (bitAnd (k / 2 ^ (i - 1)) 1) 1 t in
         record { inside = (let y = s .inside in omega arith); eight = s .eight; narrow = s .narrow; shown = rw (step, h) (s .shown) }
 
-  pub spreading-end : (sets : List ℕ) (i : ℕ) → Spreading cs ns n k sets i → i ≤ 0 → Spreads sets (chosen (held cs ns n) k)
+  pub spreading-end : (sets : List ℕ) (i : ℕ) → Spreading cs ns n k sets i → i ≤ 0 → Spreads sets (chosen (cells-from cs ns n) k)
   spreading-end sets i s l =
       let e : i ≡ 0 = omega arith in
       let z : k / 2 ^ 0 ≡ k = (let y : k / 1 ≡ k = omega arith in y) in
       record {
         eight = s .eight;
         narrow = s .narrow;
-        shows = subst (λ (x : ℕ). Shows sets (chosen (held cs ns n) x)) z (subst (λ (x : ℕ). Shows sets (chosen (drop x (held cs ns n)) (k / 2 ^ x))) e (s .shown));
+        shows = subst (λ (x : ℕ). Shows sets (chosen (cells-from cs ns n) x)) z (subst (λ (x : ℕ). Shows sets (chosen (drop x (cells-from cs ns n)) (k / 2 ^ x))) e (s .shown));
       }
 
 -- a class counts if it is not present, or its set is not empty

@@ -7,6 +7,8 @@ use mathlib.Core.List.{List}
 use mathlib.Core.Option.{some}
 use Rattle.model.specs.Words.{has}
 use Rattle.model.specs.Crews.{child-classes}
+use Rattle.model.specs.declared.Loops.{Loops as Answer}
+use Rattle.model.specs.declared.Loops.the-variants.{Loop as LoopAt, Free}
 use Rattle.sheet.specs.Reading.{class-of}
 use Rattle.configurations.specs.Configurations.{cells, list-of}
 use Rattle.configurations.specs.LoopAnswer.{Loops, loop, free, returning, has-loop, longest-in, loop-answer}
@@ -14,12 +16,10 @@ use Rattle.loops.specs.Cells.{AllSmall, cells-of}
 use Rattle.loops.specs.declared.cells.Cells.{Cells}
 use Rattle.loops.specs.declared.chase.Found.{Found}
 use Rattle.loops.specs.declared.chase.Found.the-variants.{Loop, Longest}
-use Rattle.loops.specs.declared.search.Answer.{Answer}
-use Rattle.loops.specs.declared.search.Answer.the-variants.{Loop as LoopAt, Free}
 
--- the code holds the cells of the class, of which there are at most 20, and only child classes of the sheet are present
-pub record Held (b : List ℕ) (present : ℕ) (r : Cells) : Type 0 where
-  pub held : cells-of r ≡ cells (class-of b) present
+-- the code has read the cells of the class, of which there are at most 20, and only child classes of the sheet are present
+pub record CellsOf (b : List ℕ) (present : ℕ) (r : Cells) : Type 0 where
+  pub own : cells-of r ≡ cells (class-of b) present
   pub few : r .count ≤ 20
   pub small : AllSmall r
   pub below : (i : ℕ) → has present i ≡ true → i < child-classes (class-of b)

@@ -1,5 +1,6 @@
 // The cells of the present classes, one for each bit of a configuration, and a configuration spread into one name set per class.
 use bodies::clauses::name_set;
+use bodies::words::in_fours;
 use children::crews::has_name;
 use children::crews::with_name;
 use model::ChildClass;
@@ -8,9 +9,9 @@ ghost use mathlib.Core.Path.{_≡_};
 ghost use Prim.Native.Nat.{_<_, _≤_, _/_, _%_};
 ghost use lib.ListN.{length, getD};
 ghost use Rattle.configurations.specs.Configurations.{chosen};
-ghost use Rattle.loops.specs.Cells.{cell-present, AllSmall, CellsAre, cells-of, Spreads, counts-on};
+ghost use Rattle.loops.specs.Cells.{cell-present, cells-of, present-cells, first-twenty, AllSmall, Spreads, counts-on};
 
-// The class and the name of each bit; where there are more than 20, only their number is right.
+// The class and the name of each bit, of the first 20 where there are more, 0 behind the last; and how many there are.
 pub struct Cells {
     pub classes: [u8; 20],
     pub names: [u8; 20],
@@ -33,7 +34,7 @@ fn name_numbered(j: u16) -> ChildName
 }
 
 // The class of cell i.
-fn class_held(classes: [u8; 20], i: usize) -> ChildClass
+fn class_of_cell(classes: [u8; 20], i: usize) -> ChildClass
     requires { ⌜ i < 20 ⌝ }
     ensures { λ r. ⌜ r .0 ≡ getD classes i 0 ⌝ }
 {
@@ -41,7 +42,7 @@ fn class_held(classes: [u8; 20], i: usize) -> ChildClass
 }
 
 // The name of cell i.
-fn name_held(names: [u8; 20], i: usize) -> ChildName
+fn name_of_cell(names: [u8; 20], i: usize) -> ChildName
     requires { ⌜ i < 20 ⌝ }
     ensures { λ r. ⌜ r .0 ≡ getD names i 0 ⌝ }
 {
@@ -54,7 +55,7 @@ fn cell_present(classes: &[u8], present: u8, class: ChildClass, name: ChildName)
     ensures { λ r. ⌜ r ≡ cell-present (now (classes .entry)) present (class .0) (name .0) ⌝ }
 {
     let i = class.0 as usize;
-    if classes.len() / 4 <= i {
+    if in_fours(classes) <= i {
         return false;
     }
     ((present >> class.0) & 1 == 1) & has_name(name_set(classes, i), name)
@@ -63,21 +64,20 @@ fn cell_present(classes: &[u8], present: u8, class: ChildClass, name: ChildName)
 // One cell for each name of each present class: the lowest class first, its names rising, then the next class.
 pub fn read_cells(classes: &[u8], present: u8) -> Cells
     requires { ⌜ length (now classes) ≤ 32 ⌝ }
-    ensures { λ r. ⌜ CellsAre (now (classes .entry)) present r ⌝ }
+    ensures { λ r. ⌜ r ≡ first-twenty (present-cells (now (classes .entry)) present) ⌝ }
 {
-    let mut held_classes = [0u8; 20];
-    let mut held_names = [0u8; 20];
+    let mut cell_classes = [0u8; 20];
+    let mut cell_names = [0u8; 20];
     let mut count = 0;
     let mut j: u16 = 0;
     while j < 256 {
         let class = class_numbered(j);
         let name = name_numbered(j);
-        let held = cell_present(classes, present, class, name);
         j = j + 1;
-        if held {
+        if cell_present(classes, present, class, name) {
             if count < 20 {
-                held_classes[count] = class.0;
-                held_names[count] = name.0;
+                cell_classes[count] = class.0;
+                cell_names[count] = name.0;
                 count = count + 1;
             } else {
                 count = count + 1;
@@ -85,8 +85,8 @@ pub fn read_cells(classes: &[u8], present: u8) -> Cells
         }
     }
     Cells {
-        classes: held_classes,
-        names: held_names,
+        classes: cell_classes,
+        names: cell_names,
         count,
     }
 }
@@ -103,9 +103,9 @@ pub fn spread(cells: Cells, k: u32) -> [u32; 8]
     while 0 < i {
         i = i - 1;
         if (k >> i) & 1 == 1 {
-            let class = class_held(classes, i);
+            let class = class_of_cell(classes, i);
             let c = class.0 as usize;
-            sets[c] = with_name(sets[c], name_held(names, i));
+            sets[c] = with_name(sets[c], name_of_cell(names, i));
         }
     }
     sets

@@ -6,7 +6,7 @@ use crate::chase::Found;
 use crate::chase::chase_from;
 use crate::chase::tabulate;
 use accepted::readers::state_count;
-use model::OwnState;
+use model::Loops;
 use sheet::judging::Places;
 ghost use mathlib.Core.Path.{_≡_};
 ghost use Prim.Native.Nat.{_*_, _≤_};
@@ -16,17 +16,11 @@ ghost use Rattle.children.specs.ChildList.{pairs};
 ghost use Rattle.model.specs.Replies.{written};
 ghost use Rattle.configurations.specs.Configurations.{chosen};
 ghost use Rattle.loops.specs.Cells.{cells-of};
-ghost use Rattle.loops.specs.Search.{Held, Configured, Searched};
-
-// The answer of the loop question.
-pub enum Answer {
-    Loop(u32, OwnState),
-    Free(usize),
-}
+ghost use Rattle.loops.specs.Search.{CellsOf, Configured, Searched};
 
 // What configuration k has; Longest(0) where it is skipped.
 fn look_at(sheet: &[u8], p: Places, present: u8, cells: Cells, k: u32) -> Found
-    requires { ⌜ Stands (now sheet) p × (Held (now sheet) present cells) ⌝ }
+    requires { ⌜ Stands (now sheet) p × (CellsOf (now sheet) present cells) ⌝ }
     ensures { λ r. ⌜ Configured (now (sheet .entry)) present k r ⌝ }
 {
     let sets = spread(cells, k);
@@ -37,8 +31,8 @@ fn look_at(sheet: &[u8], p: Places, present: u8, cells: Cells, k: u32) -> Found
 }
 
 // The smallest configuration with a loop and the smallest own state there, or the largest number of moves.
-pub fn search(sheet: &[u8], p: Places, present: u8, cells: Cells) -> Answer
-    requires { ⌜ Stands (now sheet) p × (Held (now sheet) present cells) ⌝ }
+pub fn search(sheet: &[u8], p: Places, present: u8, cells: Cells) -> Loops
+    requires { ⌜ Stands (now sheet) p × (CellsOf (now sheet) present cells) ⌝ }
     ensures { λ r. ⌜ Searched (now (sheet .entry)) present r ⌝ }
 {
     let n = cells.count;
@@ -51,7 +45,7 @@ pub fn search(sheet: &[u8], p: Places, present: u8, cells: Cells) -> Answer
         next = next + 1;
         match found {
             Found::Loop(q) => {
-                return Answer::Loop(k, q);
+                return Loops::Loop(k, q);
             }
             Found::Longest(m) => {
                 if longest < m {
@@ -60,7 +54,7 @@ pub fn search(sheet: &[u8], p: Places, present: u8, cells: Cells) -> Answer
             }
         }
     }
-    Answer::Free(longest)
+    Loops::Free(longest)
 }
 
 // The list of a configuration, one child per set bit, in bit order, as pairs; what is behind them is kept.

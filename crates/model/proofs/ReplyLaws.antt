@@ -1,25 +1,35 @@
--- Laws about specs/Replies.antt: what is answered where the reply is known.
+-- Laws about specs/Replies.antt: a reply that is known, and one told in another type.
 -- Assumes nothing.
 use Prim.Native.Nat.{ℕ}
-use mathlib.Core.Path.{_≡_, refl, sym, _∙_, ap}
-use mathlib.Core.List.{List, [], _∷_}
+use mathlib.Core.Path.{_≡_, refl, sym, ap, _∙_}
+use mathlib.Core.List.{List, _∷_}
 use Rattle.model.specs.Replies.{Reply, refuse, give, told-as, numbers, buffer-after, Answered}
 
-module _ {A : Type 0} (values : A → List ℕ) (r : Reply A) (out : List ℕ) where
-  -- the numbers and the buffer of a reply that is known
-  pub answered : (s : Reply A) → r ≡ s → (ns after : List ℕ) → ns ≡ numbers values s → after ≡ buffer-after s out → Answered values r out ns after
-  answered s e ns after f g =
-      record {
-        numbers-are = f ∙ ap (numbers values) (sym e);
-        buffer-is = g ∙ ap (λ (x : Reply A). buffer-after x out) (sym e);
-      }
+-- a reply that is known is answered by what its numbers are, and leaves its buffer
+pub answered-by : {A : Type 0} (values : A → List ℕ) (reply r : Reply A) → reply ≡ r → (out ns after : List ℕ) → ns ≡ numbers values r → after ≡ buffer-after r out
+    → Answered values reply out ns after
+answered-by {A} values reply r e out ns after f g =
+    record { numbers-are = f ∙ ap (numbers values) (sym e); buffer-is = g ∙ ap (λ (x : Reply A). buffer-after x out) (sym e) }
 
-  -- a refusal is its number, and nothing is written
-  pub answered-refused : (n : ℕ) → r ≡ refuse n → (after : List ℕ) → after ≡ out → Answered values r out (n ∷ []) after
-  answered-refused n e after g = answered (refuse n) e (n ∷ []) after refl g
+pub answered : {A : Type 0} (values : A → List ℕ) (reply r : Reply A) → reply ≡ r → (out after : List ℕ) → after ≡ buffer-after r out
+    → Answered values reply out (numbers values r) after
+answered values reply r e out after f = answered-by values reply r e out (numbers values r) after refl f
 
--- an answer told in another type has the same numbers, if its values are the same, and the same bytes
-pub answered-told : {A B : Type 0} (f : A → B) (v : A → List ℕ) (w : B → List ℕ) → ((a : A) → v a ≡ w (f a))
-    → (r : Reply A) (out ns after : List ℕ) → Answered v r out ns after → Answered w (told-as f r) out ns after
-answered-told f v w h (refuse n) out ns after a = record { numbers-are = a .numbers-are; buffer-is = a .buffer-is }
-answered-told f v w h (give x bytes) out ns after a = record { numbers-are = a .numbers-are ∙ ap (λ (l : List ℕ). 0 ∷ l) (h x); buffer-is = a .buffer-is }
+-- a reply has one answer's numbers, and leaves one buffer
+pub answered-once : {A : Type 0} (values : A → List ℕ) (reply : Reply A) (out ns ms after rest : List ℕ)
+    → Answered values reply out ns after → Answered values reply out ms rest → (ns ≡ ms) × (after ≡ rest)
+answered-once values reply out ns ms after rest g h = (g .numbers-are ∙ sym (h .numbers-are), g .buffer-is ∙ sym (h .buffer-is))
+
+-- a reply told in another type, in which the values are the same, has the same numbers and leaves the same buffer
+module _ {A B : Type 0} (f : A → B) (values : A → List ℕ) (told-values : B → List ℕ) (same : (a : A) → told-values (f a) ≡ values a) where
+  told-numbers : (r : Reply A) → numbers told-values (told-as f r) ≡ numbers values r
+  told-numbers (refuse n) = refl
+  told-numbers (give a bytes) = ap (_∷_ 0) (same a)
+
+  told-buffer : (r : Reply A) (out : List ℕ) → buffer-after (told-as f r) out ≡ buffer-after r out
+  told-buffer (refuse n) out = refl
+  told-buffer (give a bytes) out = refl
+
+  pub answered-as : (r : Reply A) (out answer after : List ℕ) → Answered values r out answer after → Answered told-values (told-as f r) out answer after
+  answered-as r out answer after h =
+      record { numbers-are = h .numbers-are ∙ sym (told-numbers r); buffer-is = h .buffer-is ∙ sym (told-buffer r out) }

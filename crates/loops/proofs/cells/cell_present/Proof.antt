@@ -7,11 +7,13 @@ use Rattle.loops.proofs.cells.cell_present.Statement.{statement}
 use Rattle.loops.proofs.cells.cell_present.Tie as tie
 
 returns : tie.Need-returns
-returns c = sym (cell-past _ _ _ (c .before .before .before .args .name .0) (c .if1 .taken))
+returns c = sym (cell-past _ _ _ _ _ (c .before .in-fours .ensures) (c .if1 .taken))
 
 returns-2 : tie.Need-returns-2
-returns-2 c = cell-here _ _ (c .before .before .before .before .before .before .args .class .0) _ _ _ (c .before .before .before .if1 .left) (c .before .name-set .ensures) (c .has-name .ensures)
+returns-2 c =
+    let e = c .before .before .before in
+    cell-here _ _ _ _ _ _ _ (e .before .in-fours .ensures) (e .if1 .left) (c .before .name-set .ensures) (c .has-name .ensures)
 
 pub cell-present-spec : {M : Type 1} → statement M
 cell-present-spec =
-    tie.close (tie.spec (λ c. search needs) returns (λ c. search needs) (λ c κs. search needs) (λ c κs. search needs) returns-2)
+    tie.close (tie.spec (λ c. search needs) (λ c κs. search needs) returns (λ c. search needs) (λ c κs. search needs) (λ c κs. search needs) returns-2)

@@ -17,11 +17,11 @@ loop-holds : tie.Need-loop-holds Inv-loop μ-loop
 loop-holds c = spreading-start _ _ _ _
 
 -- the cell that was read is of a class below 8 and has a name below 32
-class-small : (c : tie.After-class-held Inv-loop μ-loop) → c .class-held .result .0 < 8
-class-small c = rw (c .class-held .ensures) (c .before .before .before .before .before .before .pre .1 .class-small (c .before .before .before .loop .i - 1))
+class-small : (c : tie.After-class-of-cell Inv-loop μ-loop) → c .class-of-cell .result .0 < 8
+class-small c = let l = c .before .before .before in rw (c .class-of-cell .ensures) (l .before .before .before .pre .1 .class-small (l .loop .i - 1))
 
-name-small : (c : tie.After-name-held Inv-loop μ-loop) → c .name-held .result .0 < 32
-name-small c = rw (c .name-held .ensures) (c .before .before .before .before .before .before .before .before .pre .1 .name-small (c .before .before .before .before .before .loop .i - 1))
+name-small : (c : tie.After-name-of-cell Inv-loop μ-loop) → c .name-of-cell .result .0 < 32
+name-small c = let l = c .before .before .before .before .before in rw (c .name-of-cell .ensures) (l .before .before .before .pre .1 .name-small (l .loop .i - 1))
 
 mul-with-name : tie.Need-mul-with-name Inv-loop μ-loop
 mul-with-name c = omega (arith, class-small (c .before))
@@ -41,7 +41,7 @@ array-write-sets c = class-small (c .before .before .before)
 loop-again : tie.Need-loop-again Inv-loop μ-loop
 loop-again c =
     let b = c .before .before .before .before in
-    spreading-more _ _ _ _ _ _ (b .before .before .loop .inv) (b .before .loop-test .taken) _ (b .if1 .taken) _ _ (c .before .before .before .class-held .ensures) (c .before .name-held .ensures) (class-small (c .before .before .before)) (c .with-name .ensures) (c .with-name .ok)
+    spreading-more _ _ _ _ _ _ (b .before .before .loop .inv) (b .before .loop-test .taken) _ (b .if1 .taken) _ _ (c .before .before .before .class-of-cell .ensures) (c .before .name-of-cell .ensures) (class-small (c .before .before .before)) (c .with-name .ensures) (c .with-name .ok)
 
 loop-again-2 : tie.Need-loop-again-2 Inv-loop μ-loop
 loop-again-2 c = let b = c .before in spreading-past _ _ _ _ _ _ (b .before .loop .inv) (b .loop-test .taken) (c .if1 .left)
