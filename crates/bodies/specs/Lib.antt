@@ -6,4 +6,5 @@ pub mod PartChecks
 pub mod Clauses
 pub mod Referrers
 pub mod Patterns
+pub mod Records
 pub mod BodyRules
