@@ -142,6 +142,14 @@ on-two Either k = (either, refl)
 on-two Opposite (inl k) = absurd (omega arith)
 on-two Opposite (inr k) = absurd (omega arith)
 
+-- and is either if it is not both
+pub on-either : (op : ReadOperator) → (tagOf the-type op ≡ 0) ⊎ (tagOf the-type op ≡ 1) → (tagOf the-type op ≡ 1) ⊎ (tagOf the-type op ≡ 2) → operator-as op ≡ two either
+on-either Both k (inl l) = absurd (omega arith)
+on-either Both k (inr l) = absurd (omega arith)
+on-either Either k l = refl
+on-either Opposite (inl k) l = absurd (omega arith)
+on-either Opposite (inr k) l = absurd (omega arith)
+
 -- what is read ends behind where it begins
 abbrev Behind : ℕ → Read → Type 0
 Behind i (got g e) = i < e
