@@ -60,7 +60,7 @@ atom-kind k = getD (any-in ∷ any-not-in ∷ all-in ∷ []) k all-not-in
 abbrev pub operator-of : ℕ → Operator
 operator-of k = choose (eqb k 4) (λ _. two both) (λ _. choose (eqb k 5) (λ _. two either) (λ _. one opposite))
 
--- what a record is goes by its kind
+-- what a record is, by its kind
 unfoldable pub record-of : List ℕ → Record
 record-of r =
     choose (leb (byte r 0) 3) (λ _. leaf (atom-kind (byte r 0)) (pattern-of (byte r 1)) (u32 r 4))
@@ -81,6 +81,7 @@ shaped operand i (leaf kind p set) = got (atom kind p set) (i + 1)
 shaped operand i (operator op) = joined operand (i + 1) op
 shaped operand i unknown = broken
 
+-- the guard that begins at record i, whose operands are read by `operand`
 unfoldable pub guard-with : (ℕ → Read) → List ℕ → ℕ → Read
 guard-with operand gs i = shaped operand i (guard-record gs i)
 
@@ -89,7 +90,7 @@ unfoldable pub guard-at : ℕ → List ℕ → ℕ → Read
 guard-at zero gs i = guard-with (λ j. broken) gs i
 guard-at (suc d) gs i = guard-with (guard-at d gs) gs i
 
--- the reader of operands, with d operators left on the path
+-- the reader of the operands of an operator, where d operators were left on the path before it
 unfoldable pub operands : ℕ → List ℕ → ℕ → Read
 operands zero gs i = broken
 operands (suc d) gs i = guard-at d gs i

@@ -10,17 +10,20 @@ use Rattle.bodies.specs.declared.guards.Operator.the-variants.{Both, Eit
 use Rattle.bodies.specs.declared.guards.GuardRecord.{GuardRecord}
 use Rattle.bodies.specs.declared.guards.GuardRecord.the-variants.{Atom, Operator as IsOperator, Unknown}
 
+-- the test that an atom makes
 abbrev pub kind-as : Kind → TreeKind
 kind-as AnyIn = any-in
 kind-as AnyNotIn = any-not-in
 kind-as AllIn = all-in
 kind-as AllNotIn = all-not-in
 
+-- and, or, not
 abbrev pub operator-as : Operator → TreeOperator
 operator-as Both = two both
 operator-as Either = two either
 operator-as Opposite = one opposite
 
+-- an atom, an operator, or of no known kind
 abbrev pub record-as : GuardRecord → Record
 record-as (Atom kind p set) = leaf (kind-as kind) (pattern-as p) set
 record-as (IsOperator op) = operator (operator-as op)

@@ -6,8 +6,6 @@ use crate::words::record_at;
 use crate::words::u16_at;
 use crate::words::u32_at;
 ghost use mathlib.Core.Path.{_≡_};
-ghost use Prim.Native.Nat.{_<_, _≤_, _/_};
-ghost use lib.ListN.{length};
 ghost use Rattle.bodies.specs.GuardRecords.{pattern-right, record-right, atom-right, operator-right, atom-kind, operator-of, record-of, guard-record, guard-at, guard-from, is-read};
 ghost use Rattle.bodies.specs.Records.{kind-as, operator-as, record-as};
 ghost use Rattle.bodies.specs.Ends.{end-of};

@@ -39,7 +39,9 @@ module _ (t : ℕ) where
       let a = c .before .before .args in record-as x ≡ guard-record (a .g .now) (a .from)
   record-is c e = ap record-as (sym e) ∙ c .guard-record .ensures
 
-  operator-is : (c : lts.After-record uses given guard-end.Post) → let a = c .before .before .before .before .args in operator (operator-as (c .«record» .given .0 .0)) ≡ guard-record (a .g .now) (a .from)
+  -- it is the operator that was matched
+  operator-is : (c : lts.After-record uses given guard-end.Post) →
+      let a = c .before .before .before .before .args in operator (operator-as (c .«record» .given .0 .0)) ≡ guard-record (a .g .now) (a .from)
   operator-is c = record-is (c .before .before) (c .«record» .given .1)
 
   -- an atom's end, and where an operator's operands begin, are numbers
@@ -73,6 +75,7 @@ module _ (t : ℕ) where
   returns-3 : lts.Need-returns-3 uses given guard-end.Post
   returns-3 c = sym (ap end-of (read-as _ _ _ (record-is (c .before .before) (c .enum-told .given .1))))
 
+  -- in what follows o is where the operator was matched, e where the depth is not 0, f where the first operand was read, n where it has an end
   returns-4 : lts.Need-returns-4 uses given guard-end.Post
   returns-4 c =
       let n = c .before .before .before in
