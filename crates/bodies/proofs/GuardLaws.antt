@@ -1,160 +1,202 @@
--- Laws about specs/GuardRecords.antt, one for each way that the guard reader and the layout check go.
+-- Laws about specs/GuardRecords.antt, one for each way that the readers of guard records and of guards go.
 -- Assumes nothing.
 use Prim.Native.Nat.{ℕ, zero, suc, _+_, _-_, _/_, _<_, _≤_}
 use native.Mathlib.Omega.{arith}
 use native.Mathlib.Numerals.{sub-one}
-use native.Mathlib.Decide.{ℕ-discrete}
-use mathlib.Core.Path.{_≡_, refl, sym, _∙_, ap}
-use mathlib.Core.Bool.{true, false}
-use mathlib.Core.List.{List, [], _∷_}
-use lib.ListN.{length, getD}
-use borrow.Author.Tests.{lt-ltb, le-ltb, le-leb, lt-leb}
-use Rattle.model.specs.Tree.{Kind, any-in, any-not-in, all-in, all-not-in, Guard, both, either, opposite}
-use Rattle.model.proofs.Words.{clash}
-use Rattle.bodies.specs.Bytes.{byte, record-at}
-use Rattle.bodies.specs.GuardRecords.{atom-right, operator-right, record-right, Read, got, broken, by-read, is-read, Shape, leaf, two, one, unknown, shape, shaped, guard-with, guard-at, guard-from}
+use mathlib.Core.Path.{_≡_, refl, sym, _∙_, ap, subst}
+use mathlib.Core.Bool.{Bool, true, false}
+use mathlib.Core.Logic.{_⊎_, inl, inr}
+use mathlib.Core.List.{List}
+use denote.Enum.Declared.{tagOf}
+use lib.Dec.{leb}
+use lib.ListN.{length}
+use borrow.Author.Tests.{lt-ltb, le-ltb, le-leb, lt-leb, ne-eqb}
+use Rattle.model.specs.Words.{choose}
+use Rattle.model.specs.Tree.{Pattern, Kind, all-not-in, Guard, both, either, opposite}
+use Rattle.model.proofs.Words.{clash, true-not-false, lt-or-le}
+use Rattle.bodies.specs.Bytes.{byte, u32, record-at}
+use Rattle.bodies.specs.GuardRecords.{pattern-of, atom-right, operator-right, record-right, Read, got, broken, is-read, Operator, two, one, Record, leaf, operator, unknown, atom-kind, operator-of, record-of, guard-record, joined, shaped, guard-with, guard-at, operands, guard-from}
+use Rattle.bodies.specs.Records.{operator-as}
 use Rattle.bodies.specs.Ends.{end-of}
+use Rattle.bodies.specs.declared.guards.Operator.{Operator as ReadOperator}
+use Rattle.bodies.specs.declared.guards.Operator.the-variants.{Both, Either, Opposite}
 use Rattle.bodies.specs.declared.guards.End.the-variants.{At, Broken}
+use Rattle.bodies.proofs.guards.Operator.{the-type}
+use Rattle.bodies.proofs.Branches.{read-case}
 
--- the layout of a record goes by its kind
-pub layout-atom : (K : ℕ) (r : List ℕ) → byte r 0 ≤ 3 → record-right K r ≡ atom-right K r
-layout-atom K r h = rw (le-leb (byte r 0) 3 h)
+-- the last of an atom's kinds, and of the operators
+pub kind-last : (k : ℕ) → (k ≡ 0 → ⊥) → (k ≡ 1 → ⊥) → (k ≡ 2 → ⊥) → all-not-in ≡ atom-kind k
+kind-last zero a b c = absurd (a refl)
+kind-last (suc zero) a b c = absurd (b refl)
+kind-last (suc (suc zero)) a b c = absurd (c refl)
+kind-last (suc (suc (suc k))) a b c = refl
 
-pub layout-operator : (K : ℕ) (r : List ℕ) → 3 < byte r 0 → byte r 0 ≤ 6 → record-right K r ≡ operator-right r
-layout-operator K r h l = rw (lt-leb (byte r 0) 3 h, le-leb (byte r 0) 6 l)
+pub operator-last : (k : ℕ) → (k ≡ 4 → ⊥) → (k ≡ 5 → ⊥) → one opposite ≡ operator-of k
+operator-last k a b = rw (ne-eqb k 4 a, ne-eqb k 5 b)
 
-pub layout-unknown : (K : ℕ) (r : List ℕ) → 6 < byte r 0 → record-right K r ≡ false
-layout-unknown K r h = let h3 : 3 < byte r 0 = omega arith in rw (lt-leb (byte r 0) 3 h3, lt-leb (byte r 0) 6 h)
+-- what a record of kind k is
+module _ (r : List ℕ) (k : ℕ) (e : k ≡ byte r 0) where
+  pub record-atom : k ≤ 3 → {kind : Kind} {p : Pattern} {set : ℕ} → kind ≡ atom-kind k → p ≡ pattern-of (byte r 1) → set ≡ u32 r 4 → leaf kind p set ≡ record-of r
+  unfolding record-of
+  record-atom h a b c = rw (a, b, c, ← e, le-leb k 3 h)
 
--- what a kind stands for: the atoms, and the operators on two operands
-abbrev pub kind-of : ℕ → Kind
-kind-of k = getD (any-in ∷ any-not-in ∷ all-in ∷ all-not-in ∷ []) k any-in
+  pub record-operator : 3 < k → k ≤ 6 → {op : Operator} → op ≡ operator-of k → operator op ≡ record-of r
+  unfolding record-of
+  record-operator l h a = rw (a, ← e, lt-leb k 3 l, le-leb k 6 h)
 
-abbrev pub joins : ℕ → Guard → Guard → Guard
-joins k = getD (both ∷ either ∷ []) (k - 4) both
+  pub record-unknown : 6 < k → unknown ≡ record-of r
+  unfolding record-of
+  record-unknown l = let l3 : 3 < k = omega arith in rw (← e, lt-leb k 3 l3, lt-leb k 6 l)
 
-pub shape-leaf : (k : ℕ) → k ≤ 3 → shape k ≡ leaf (kind-of k)
-unfolding shape
-shape-leaf zero h = refl
-shape-leaf (suc zero) h = refl
-shape-leaf (suc (suc zero)) h = refl
-shape-leaf (suc (suc (suc zero))) h = refl
-shape-leaf (suc (suc (suc (suc k)))) h = absurd (omega arith)
+-- the layout that a record must keep goes by what it is
+abbrev pub layout-of : ℕ → List ℕ → Record → Bool
+layout-of K r (leaf kind p set) = atom-right K r
+layout-of K r (operator op) = operator-right r
+layout-of K r unknown = false
 
-pub shape-two : (k : ℕ) → 3 < k → k ≤ 6 → (k ≡ 6 → ⊥) → shape k ≡ two (joins k)
-unfolding shape
-shape-two zero l h n = absurd (omega arith)
-shape-two (suc zero) l h n = absurd (omega arith)
-shape-two (suc (suc zero)) l h n = absurd (omega arith)
-shape-two (suc (suc (suc zero))) l h n = absurd (omega arith)
-shape-two (suc (suc (suc (suc zero)))) l h n = refl
-shape-two (suc (suc (suc (suc (suc zero))))) l h n = refl
-shape-two (suc (suc (suc (suc (suc (suc k)))))) l h n = absurd (n (omega arith))
+pub layout : (K : ℕ) (r : List ℕ) {x : Record} → x ≡ record-of r → layout-of K r x ≡ record-right K r
+unfolding record-of
+layout K r e = ap (layout-of K r) e ∙ go (leb (byte r 0) 3) (leb (byte r 0) 6)
+  where
+    go : (a b : Bool) → layout-of K r (choose a (λ _. leaf (atom-kind (byte r 0)) (pattern-of (byte r 1)) (u32 r 4)) (λ _. choose b (λ _. operator (operator-of (byte r 0))) (λ _. unknown)))
+        ≡ choose a (λ _. atom-right K r) (λ _. choose b (λ _. operator-right r) (λ _. false))
+    go true b = refl
+    go false true = refl
+    go false false = refl
 
-pub shape-one : (k : ℕ) → k ≡ 6 → shape k ≡ one opposite
-unfolding shape
-shape-one k h = rw h
+-- a guard record stands past the end, or is what its bytes say
+pub record-past : (gs : List ℕ) (i : ℕ) → length gs / 8 ≤ i → unknown ≡ guard-record gs i
+unfolding guard-record
+record-past gs i h = rw (le-ltb i (length gs / 8) h)
 
-pub shape-unknown : (k : ℕ) → 6 < k → shape k ≡ unknown
-unfolding shape
-shape-unknown zero l = absurd (omega arith)
-shape-unknown (suc zero) l = absurd (omega arith)
-shape-unknown (suc (suc zero)) l = absurd (omega arith)
-shape-unknown (suc (suc (suc zero))) l = absurd (omega arith)
-shape-unknown (suc (suc (suc (suc zero)))) l = absurd (omega arith)
-shape-unknown (suc (suc (suc (suc (suc zero))))) l = absurd (omega arith)
-shape-unknown (suc (suc (suc (suc (suc (suc zero)))))) l = absurd (omega arith)
-shape-unknown (suc (suc (suc (suc (suc (suc (suc k))))))) l = refl
+pub record-there : (gs : List ℕ) (i : ℕ) → i < length gs / 8 → {x : Record} {r : List ℕ} → x ≡ record-of r → r ≡ record-at gs i → x ≡ guard-record gs i
+unfolding guard-record
+record-there gs i h e q = rw (lt-ltb i (length gs / 8) h, ← q) e
 
--- the reader of operands with d operators left on the path
-pub operand : ℕ → List ℕ → ℕ → Read
-operand zero gs j = broken
-operand (suc d) gs j = guard-at d gs j
+-- a record that is known stands there
+abbrev pub known : Record → Bool
+known (leaf kind p set) = true
+known (operator op) = true
+known unknown = false
 
-pub operand-none : (d : ℕ) (gs : List ℕ) (j : ℕ) → d ≡ 0 → operand d gs j ≡ broken
-unfolding operand
-operand-none d gs j e = rw e
+pub known-there : (gs : List ℕ) (i : ℕ) {x : Record} → x ≡ guard-record gs i → known x ≡ true → i < length gs / 8
+known-there gs i {x} e k = go (lt-or-le i (length gs / 8))
+  where
+    go : (i < length gs / 8) ⊎ (length gs / 8 ≤ i) → i < length gs / 8
+    go (inl l) = l
+    go (inr h) = absurd (true-not-false k (ap known (e ∙ sym (record-past gs i h))))
 
-pub operand-some : (d : ℕ) (gs : List ℕ) (j : ℕ) → (d ≡ 0 → ⊥) → operand d gs j ≡ guard-at (d - 1) gs j
-unfolding operand
-operand-some zero gs j n = absurd (n refl)
-operand-some (suc d) gs j n = ap (λ (m : ℕ). guard-at m gs j) (sym (sub-one (suc d)))
+-- a guard is what its first record makes of it
+pub read-as : (d : ℕ) (gs : List ℕ) (i : ℕ) {x : Record} → x ≡ guard-record gs i → guard-at d gs i ≡ shaped (operands d gs) i x
+unfolding guard-at guard-with operands
+read-as zero gs i e = rw e
+read-as (suc d) gs i e = rw e
 
--- a guard begins past the end
-pub read-past : (d : ℕ) (gs : List ℕ) (i : ℕ) → length gs / 8 ≤ i → guard-at d gs i ≡ broken
-unfolding guard-at guard-with
-read-past zero gs i h = rw (le-ltb i (length gs / 8) h)
-read-past (suc d) gs i h = rw (le-ltb i (length gs / 8) h)
-
--- or is what its record's kind, k, makes of it
-pub read-as : (d : ℕ) (gs : List ℕ) (i k : ℕ) (s : Shape) → i < length gs / 8 → k ≡ byte (record-at gs i) 0 → shape k ≡ s
-    → guard-at d gs i ≡ shaped (operand d gs) (record-at gs i) i s
-unfolding guard-at guard-with operand
-read-as zero gs i k s h e f = rw (lt-ltb i (length gs / 8) h, ← e, f)
-read-as (suc d) gs i k s h e f = rw (lt-ltb i (length gs / 8) h, ← e, f)
-
--- the ends of the operators' operands
-one-end : (f : Guard → Guard) (o : Read) → end-of (by-read o (λ _. broken) (λ g j. got (f g) j)) ≡ end-of o
-one-end f (got g e) = refl
-one-end f broken = refl
-
-two-end : (f : Guard → Guard → Guard) (operand : ℕ → Read) (o : Read) (m : ℕ) → end-of o ≡ At m
-    → end-of (by-read o (λ _. broken) (λ g j. by-read (operand j) (λ _. broken) (λ h k. got (f g h) k))) ≡ end-of (operand m)
-two-end f operand (got g e) m h = let q : e ≡ m = cc in one-end (f g) (operand e) ∙ ap (λ (j : ℕ). end-of (operand j)) q
-two-end f operand broken m h = absurd (clash (cc))
-
-two-broken : (f : Guard → Guard → Guard) (operand : ℕ → Read) (o : Read) → end-of o ≡ Broken
-    → end-of (by-read o (λ _. broken) (λ g j. by-read (operand j) (λ _. broken) (λ h k. got (f g h) k))) ≡ Broken
-two-broken f operand (got g e) h = absurd (clash (cc))
-two-broken f operand broken h = refl
-
--- where a guard ends, for each way that the guard reader goes
+-- an operator's guard, for each way that its operands are read: none with no operator left on the path
 module _ (d : ℕ) (gs : List ℕ) (i : ℕ) where
-  pub end-past : length gs / 8 ≤ i → end-of (guard-at d gs i) ≡ Broken
-  end-past h = ap end-of (read-past d gs i h)
+  pub joined-deep : d ≡ 0 → (op : Operator) → joined (operands d gs) i op ≡ broken
+  unfolding joined operands
+  joined-deep z (two f) = rw z
+  joined-deep z (one f) = rw z
 
-  module _ (k : ℕ) (h : i < length gs / 8) (e : k ≡ byte (record-at gs i) 0) where
-    pub end-atom : k ≤ 3 → end-of (guard-at d gs i) ≡ At (i + 1)
-    unfolding shaped
-    end-atom l = ap end-of (read-as d gs i k (leaf (kind-of k)) h e (shape-leaf k l))
-
-    pub end-unknown : 6 < k → end-of (guard-at d gs i) ≡ Broken
-    unfolding shaped
-    end-unknown l = ap end-of (read-as d gs i k unknown h e (shape-unknown k l))
-
-    -- one operand: the guard ends where it does
-    pub end-one : k ≡ 6 → end-of (guard-at d gs i) ≡ end-of (operand d gs (i + 1))
-    unfolding shaped
-    end-one l = ap end-of (read-as d gs i k (one opposite) h e (shape-one k l)) ∙ one-end opposite (operand d gs (i + 1))
-
-    -- two: it ends where the second does, which begins where the first ends
-    pub end-two : 3 < k → k ≤ 6 → (k ≡ 6 → ⊥) → (m : ℕ) → end-of (operand d gs (i + 1)) ≡ At m → end-of (guard-at d gs i) ≡ end-of (operand d gs m)
-    unfolding shaped
-    end-two l u n m f =
-        ap end-of (read-as d gs i k (two (joins k)) h e (shape-two k l u n)) ∙ two-end (joins k) (operand d gs) (operand d gs (i + 1)) m f
-
-    -- it is broken where its first operand is
-    pub end-first : 3 < k → k ≤ 6 → end-of (operand d gs (i + 1)) ≡ Broken → end-of (guard-at d gs i) ≡ Broken
-    unfolding shaped
-    end-first l u f = go (ℕ-discrete k 6)
+  module _ (n : d ≡ 0 → ⊥) where
+    -- else with one less
+    less : (j : ℕ) → operands d gs j ≡ guard-at (d - 1) gs j
+    unfolding operands
+    less j = go d n
       where
-        go : Dec (k ≡ 6) → end-of (guard-at d gs i) ≡ Broken
-        go (yes s) = end-one s ∙ f
-        go (no n) = ap end-of (read-as d gs i k (two (joins k)) h e (shape-two k l u n)) ∙ two-broken (joins k) (operand d gs) (operand d gs (i + 1)) f
+        go : (m : ℕ) → (m ≡ 0 → ⊥) → operands m gs j ≡ guard-at (m - 1) gs j
+        go zero z = absurd (z refl)
+        go (suc m) z = ap (λ (k : ℕ). guard-at k gs j) (sym (sub-one (suc m)))
+
+    pub joined-first : guard-at (d - 1) gs i ≡ broken → (op : Operator) → joined (operands d gs) i op ≡ broken
+    unfolding joined
+    joined-first h (two f) = rw (less i, h)
+    joined-first h (one f) = rw (less i, h)
+
+    module _ {g : Guard} {j : ℕ} (h : guard-at (d - 1) gs i ≡ got g j) where
+      pub joined-one : (f : Guard → Guard) → joined (operands d gs) i (one f) ≡ got (f g) j
+      unfolding joined
+      joined-one f = rw (less i, h)
+
+      pub joined-second : (f : Guard → Guard → Guard) → guard-at (d - 1) gs j ≡ broken → joined (operands d gs) i (two f) ≡ broken
+      unfolding joined
+      joined-second f b = rw (less i, h, less j, b)
+
+      pub joined-two : (f : Guard → Guard → Guard) {u : Guard} {k : ℕ} → guard-at (d - 1) gs j ≡ got u k → joined (operands d gs) i (two f) ≡ got (f g u) k
+      unfolding joined
+      joined-two f b = rw (less i, h, less j, b)
+
+      -- a guard of two operands ends where the second does
+      pub joined-end : (f : Guard → Guard → Guard) → end-of (joined (operands d gs) i (two f)) ≡ end-of (guard-at (d - 1) gs j)
+      joined-end f = go (guard-at (d - 1) gs j) refl
+        where
+          go : (o : Read) → guard-at (d - 1) gs j ≡ o → end-of (joined (operands d gs) i (two f)) ≡ end-of o
+          go (got u k) b = ap end-of (joined-two f b)
+          go broken b = ap end-of (joined-second f b)
+
+-- an operator that is not the opposite has two operands
+pub on-two : (op : ReadOperator) → (tagOf the-type op ≡ 0) ⊎ (tagOf the-type op ≡ 1) → (f : Guard → Guard → Guard) × (operator-as op ≡ two f)
+on-two Both k = (both, refl)
+on-two Either k = (either, refl)
+on-two Opposite (inl k) = absurd (omega arith)
+on-two Opposite (inr k) = absurd (omega arith)
+
+-- and is either if it is not both
+pub on-either : (op : ReadOperator) → (tagOf the-type op ≡ 0) ⊎ (tagOf the-type op ≡ 1) → (tagOf the-type op ≡ 1) ⊎ (tagOf the-type op ≡ 2) → operator-as op ≡ two either
+on-either Both k (inl l) = absurd (omega arith)
+on-either Both k (inr l) = absurd (omega arith)
+on-either Either k l = refl
+on-either Opposite (inl k) l = absurd (omega arith)
+on-either Opposite (inr k) l = absurd (omega arith)
+
+-- what is read ends behind where it begins
+abbrev Behind : ℕ → Read → Type 0
+Behind i (got g e) = i < e
+Behind i broken = Unit {0}
+
+joined-behind : (operand : ℕ → Read) → ((j : ℕ) → Behind j (operand j)) → (i a : ℕ) → i ≤ a → (op : Operator) → Behind i (joined operand a op)
+unfolding joined
+joined-behind operand b i a l (two f) =
+    read-case (Behind i) (operand a) _ _ (λ _. tt)
+    (λ g j h. read-case (Behind i) (operand j) _ _ (λ _. tt)
+    (λ u k q. let m : a < j = subst (Behind a) h (b a) in let n : j < k = subst (Behind j) q (b j) in omega arith))
+joined-behind operand b i a l (one f) = read-case (Behind i) (operand a) _ _ (λ _. tt) (λ g j h. let m : a < j = subst (Behind a) h (b a) in omega arith)
+
+shaped-behind : (operand : ℕ → Read) → ((j : ℕ) → Behind j (operand j)) → (i : ℕ) (x : Record) → Behind i (shaped operand i x)
+shaped-behind operand b i (leaf kind p set) = omega arith
+shaped-behind operand b i (operator op) = joined-behind operand b i (i + 1) (omega arith) op
+shaped-behind operand b i unknown = tt
+
+guard-behind : (d : ℕ) (gs : List ℕ) (i : ℕ) → Behind i (guard-at d gs i)
+unfolding guard-at guard-with
+guard-behind zero gs i = shaped-behind (λ j. broken) (λ j. tt) i (guard-record gs i)
+guard-behind (suc d) gs i = shaped-behind (guard-at d gs) (guard-behind d gs) i (guard-record gs i)
+
+pub read-behind : (d : ℕ) (gs : List ℕ) (i : ℕ) {g : Guard} {e : ℕ} → guard-at d gs i ≡ got g e → i < e
+read-behind d gs i h = subst (Behind i) h (guard-behind d gs i)
+
+-- back from an end to what was read
+got-back : (o : Read) (e : ℕ) → end-of o ≡ At e → (g : Guard) × (o ≡ got g e)
+got-back (got g j) e h = (g, ap (got g) (cc))
+got-back broken e h = absurd (clash (cc))
+
+broken-back : (o : Read) → end-of o ≡ Broken → o ≡ broken
+broken-back (got g j) h = absurd (clash (cc))
+broken-back broken h = refl
+
+module _ (d : ℕ) (gs : List ℕ) (i : ℕ) where
+  pub end-got : (e : ℕ) → end-of (guard-at d gs i) ≡ At e → (g : Guard) × (guard-at d gs i ≡ got g e)
+  end-got e h = got-back (guard-at d gs i) e h
+
+  pub end-broken : end-of (guard-at d gs i) ≡ Broken → guard-at d gs i ≡ broken
+  end-broken h = broken-back (guard-at d gs i) h
 
 -- a guard reads exactly if it has an end
-ends-at : (o : Read) (e : ℕ) → end-of o ≡ At e → is-read o ≡ true
-ends-at (got g x) e h = refl
-ends-at broken e h = absurd (clash (cc))
-
-ends-nowhere : (o : Read) → end-of o ≡ Broken → is-read o ≡ false
-ends-nowhere (got g x) h = absurd (clash (cc))
-ends-nowhere broken h = refl
-
 pub ends-read : (gs : List ℕ) (i e : ℕ) → end-of (guard-at 16 gs i) ≡ At e → is-read (guard-from gs i) ≡ true
 unfolding guard-from
-ends-read gs i e h = ends-at (guard-at 16 gs i) e h
+ends-read gs i e h = let (g, p) = end-got 16 gs i e h in rw p
 
 pub ends-broken : (gs : List ℕ) (i : ℕ) → end-of (guard-at 16 gs i) ≡ Broken → is-read (guard-from gs i) ≡ false
 unfolding guard-from
-ends-broken gs i h = ends-nowhere (guard-at 16 gs i) h
+ends-broken gs i h = rw (end-broken 16 gs i h)

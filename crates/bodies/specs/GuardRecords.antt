@@ -41,31 +41,59 @@ abbrev pub by-read {ℓ} : {A : Type ℓ} → Read → (Unit {0} → A) → (Gua
 by-read broken a f = a tt
 by-read (got g e) a f = f g e
 
--- what a record's kind makes of it: an atom, or an operator on two operands or on one
-pub data Shape : Type 0 where
-  leaf : Kind → Shape
-  two : (Guard → Guard → Guard) → Shape
-  one : (Guard → Guard) → Shape
-  unknown : Shape
+-- an operator makes a guard of two guards or of one
+pub data Operator : Type 0 where
+  two : (Guard → Guard → Guard) → Operator
+  one : (Guard → Guard) → Operator
 
-unfoldable pub shape : ℕ → Shape
-shape k = getD (leaf any-in ∷ leaf any-not-in ∷ leaf all-in ∷ leaf all-not-in ∷ two both ∷ two either ∷ one opposite ∷ []) k unknown
+-- what a guard record is: an atom, an operator, or of no known kind
+pub data Record : Type 0 where
+  leaf : Kind → Pattern → ℕ → Record
+  operator : Operator → Record
+  unknown : Record
 
--- the guard of record r at place i, whose operands follow it directly, left before right, and are read by `operand`
-unfoldable pub shaped : (ℕ → Read) → List ℕ → ℕ → Shape → Read
-shaped operand r i (leaf kind) = got (atom kind (pattern-of (byte r 1)) (u32 r 4)) (i + 1)
-shaped operand r i (two op) = by-read (operand (i + 1)) (λ _. broken) (λ g j. by-read (operand j) (λ _. broken) (λ h k. got (op g h) k))
-shaped operand r i (one op) = by-read (operand (i + 1)) (λ _. broken) (λ g j. got (op g) j)
-shaped operand r i unknown = broken
+-- kinds 0 to 3: ANY in, ANY not in, ALL in, ALL not in
+abbrev pub atom-kind : ℕ → Kind
+atom-kind k = getD (any-in ∷ any-not-in ∷ all-in ∷ []) k all-not-in
 
+-- kinds 4 to 6: and, or, not
+abbrev pub operator-of : ℕ → Operator
+operator-of k = choose (eqb k 4) (λ _. two both) (λ _. choose (eqb k 5) (λ _. two either) (λ _. one opposite))
+
+-- what a record is, by its kind
+unfoldable pub record-of : List ℕ → Record
+record-of r =
+    choose (leb (byte r 0) 3) (λ _. leaf (atom-kind (byte r 0)) (pattern-of (byte r 1)) (u32 r 4))
+    (λ _. choose (leb (byte r 0) 6) (λ _. operator (operator-of (byte r 0))) (λ _. unknown))
+
+-- what record i is; unknown past the end
+unfoldable pub guard-record : List ℕ → ℕ → Record
+guard-record gs i = choose (ltb i (length gs / 8)) (λ _. record-of (record-at gs i)) (λ _. unknown)
+
+-- the guard of an operator, whose operands begin at record i, left before right, and are read by `operand`
+unfoldable pub joined : (ℕ → Read) → ℕ → Operator → Read
+joined operand i (two op) = by-read (operand i) (λ _. broken) (λ g j. by-read (operand j) (λ _. broken) (λ h k. got (op g h) k))
+joined operand i (one op) = by-read (operand i) (λ _. broken) (λ g j. got (op g) j)
+
+-- the guard of a record at place i; an operator's operands follow it directly
+abbrev pub shaped : (ℕ → Read) → ℕ → Record → Read
+shaped operand i (leaf kind p set) = got (atom kind p set) (i + 1)
+shaped operand i (operator op) = joined operand (i + 1) op
+shaped operand i unknown = broken
+
+-- the guard that begins at record i, whose operands are read by `operand`
 unfoldable pub guard-with : (ℕ → Read) → List ℕ → ℕ → Read
-guard-with operand gs i =
-    choose (ltb i (length gs / 8)) (λ _. shaped operand (record-at gs i) i (shape (byte (record-at gs i) 0))) (λ _. broken)
+guard-with operand gs i = shaped operand i (guard-record gs i)
 
 -- the guard that begins at record i, with at most d operators on a path
 unfoldable pub guard-at : ℕ → List ℕ → ℕ → Read
 guard-at zero gs i = guard-with (λ j. broken) gs i
 guard-at (suc d) gs i = guard-with (guard-at d gs) gs i
+
+-- the reader of the operands of an operator, where d operators were left on the path before it
+unfoldable pub operands : ℕ → List ℕ → ℕ → Read
+operands zero gs i = broken
+operands (suc d) gs i = guard-at d gs i
 
 -- at most 16 operators lie on one path
 unfoldable pub guard-from : List ℕ → ℕ → Read

@@ -5,4 +5,5 @@ pub mod StatementRecords
 pub mod PartChecks
 pub mod Clauses
 pub mod Patterns
+pub mod Records
 pub mod BodyRules

@@ -1,19 +1,87 @@
-// Guard records: their layout, and where a guard ends.
+// Guard records: what each is, their layout, and where a guard ends.
+use crate::kinds::Pattern;
+use crate::kinds::pattern_at;
 use crate::words::byte_at;
 use crate::words::record_at;
 use crate::words::u16_at;
 use crate::words::u32_at;
 ghost use mathlib.Core.Path.{_≡_};
-ghost use Prim.Native.Nat.{_<_, _≤_, _/_};
-ghost use lib.ListN.{length};
-ghost use Rattle.bodies.specs.GuardRecords.{pattern-right, record-right, atom-right, operator-right, guard-at, guard-from, is-read};
+ghost use Rattle.bodies.specs.GuardRecords.{pattern-right, record-right, atom-right, operator-right, atom-kind, operator-of, record-of, guard-record, guard-at, guard-from, is-read};
+ghost use Rattle.bodies.specs.Records.{kind-as, operator-as, record-as};
 ghost use Rattle.bodies.specs.Ends.{end-of};
 ghost use Rattle.bodies.specs.BodyRules.{records-right};
+
+// The test that an atom makes.
+pub enum Kind {
+    AnyIn,
+    AnyNotIn,
+    AllIn,
+    AllNotIn,
+}
+
+// An operator on guards: and, or, not.
+pub enum Operator {
+    Both,
+    Either,
+    Opposite,
+}
+
+// What a guard record is.
+pub enum GuardRecord {
+    Atom(Kind, Pattern, u32),
+    Operator(Operator),
+    Unknown,
+}
 
 // Where a guard that begins at a record ends: the record after it; or it is broken.
 pub enum End {
     At(usize),
     Broken,
+}
+
+// The test of an atom of kind 0 to 3.
+fn atom_kind(kind: usize) -> Kind
+    ensures { λ r. ⌜ kind-as r ≡ atom-kind kind ⌝ }
+{
+    match kind {
+        0 => Kind::AnyIn,
+        1 => Kind::AnyNotIn,
+        2 => Kind::AllIn,
+        _ => Kind::AllNotIn,
+    }
+}
+
+// The operator of kind 4 to 6.
+fn operator_of(kind: usize) -> Operator
+    ensures { λ r. ⌜ operator-as r ≡ operator-of kind ⌝ }
+{
+    match kind {
+        4 => Operator::Both,
+        5 => Operator::Either,
+        _ => Operator::Opposite,
+    }
+}
+
+// What the record at the front is: one match over its kind.
+fn record_of(r: &[u8]) -> GuardRecord
+    ensures { λ x. ⌜ record-as x ≡ record-of (now (r .entry)) ⌝ }
+{
+    let kind = byte_at(r, 0);
+    match kind {
+        0..=3 => GuardRecord::Atom(atom_kind(kind), pattern_at(r, 1), u32_at(r, 4)),
+        4..=6 => GuardRecord::Operator(operator_of(kind)),
+        _ => GuardRecord::Unknown,
+    }
+}
+
+// What guard record i is; unknown past the end.
+pub fn guard_record(g: &[u8], i: usize) -> GuardRecord
+    ensures { λ x. ⌜ record-as x ≡ guard-record (now (g .entry)) i ⌝ }
+{
+    if g.len() / 8 <= i {
+        return GuardRecord::Unknown;
+    }
+    record_of(record_at(g, i))
 }
 
 // A pattern is a child class below K, or 255 for all children.
@@ -43,15 +111,15 @@ fn operator_ok(r: &[u8]) -> bool
     (pattern == 0) & ((zeros == 0) & (names == 0))
 }
 
-// A record keeps its layout: one match over its kind.
+// A record keeps its layout.
 fn record_ok(classes: usize, r: &[u8]) -> bool
     ensures { λ ok. ⌜ ok ≡ record-right classes (now (r .entry)) ⌝ }
 {
-    let kind = byte_at(r, 0);
-    match kind {
-        0..=3 => atom_ok(classes, r),
-        4..=6 => operator_ok(r),
-        _ => false,
+    let record = record_of(r);
+    match record {
+        GuardRecord::Atom(_, _, _) => atom_ok(classes, r),
+        GuardRecord::Operator(_) => operator_ok(r),
+        GuardRecord::Unknown => false,
     }
 }
 
@@ -59,13 +127,10 @@ fn record_ok(classes: usize, r: &[u8]) -> bool
 pub fn guard_end(g: &[u8], from: usize, depth: usize) -> End
     ensures { λ r. ⌜ r ≡ end-of (guard-at depth (now (g .entry)) from) ⌝ }
 {
-    if g.len() / 8 <= from {
-        return End::Broken;
-    }
-    let kind = byte_at(record_at(g, from), 0);
-    match kind {
-        0..=3 => End::At(from + 1),
-        4..=6 => {
+    let record = guard_record(g, from);
+    match record {
+        GuardRecord::Atom(_, _, _) => End::At(from + 1),
+        GuardRecord::Operator(operator) => {
             if depth == 0 {
                 return End::Broken;
             }
@@ -73,12 +138,12 @@ pub fn guard_end(g: &[u8], from: usize, depth: usize) -> End
             let End::At(next) = first else {
                 return End::Broken;
             };
-            if kind == 6 {
-                return End::At(next);
+            match operator {
+                Operator::Both | Operator::Either => guard_end(g, next, depth - 1),
+                Operator::Opposite => End::At(next),
             }
-            guard_end(g, next, depth - 1)
         }
-        _ => End::Broken,
+        GuardRecord::Unknown => End::Broken,
     }
 }
 

@@ -1,21 +1,21 @@
--- `record_ok`: the layout goes by the kind, a law for each range.
+-- `record_ok`: the layout goes by what the record is.
 -- Assumes nothing.
-use native.Mathlib.Omega.{arith}
-use mathlib.Core.Path.{sym, _∙_}
-use Rattle.bodies.proofs.GuardLaws.{layout-atom, layout-operator, layout-unknown}
+use mathlib.Core.Path.{sym, _∙_, ap}
 use borrow.Author.Needs.{needs}
+use Rattle.bodies.specs.Records.{record-as}
+use Rattle.bodies.proofs.GuardLaws.{layout}
 use Rattle.bodies.proofs.guards.record_ok.Statement.{statement}
 use Rattle.bodies.proofs.guards.record_ok.Tie as tie
 
 returns : tie.Need-returns
-returns c = let a = c .before .before .before .before .args in c .atom-ok .ensures ∙ sym (layout-atom (a .classes) (a .r .now) (omega arith))
+returns c = let t = c .before in c .atom-ok .ensures ∙ layout _ _ (ap record-as (sym (t .enum-told .given .1)) ∙ t .before .before .record-of .ensures)
 
 returns-2 : tie.Need-returns-2
-returns-2 c = let a = c .before .before .before .before .before .args in c .operator-ok .ensures ∙ sym (layout-operator (a .classes) (a .r .now) (omega arith) (omega arith))
+returns-2 c = let t = c .before in c .operator-ok .ensures ∙ layout _ _ (ap record-as (sym (t .enum-told2 .given .1)) ∙ t .before .before .record-of .ensures)
 
 returns-3 : tie.Need-returns-3
-returns-3 c = let a = c .before .before .before .before .args in sym (layout-unknown (a .classes) (a .r .now) (omega arith))
+returns-3 c = layout _ _ (ap record-as (sym (c .enum-told3 .given .1)) ∙ c .before .before .record-of .ensures)
 
 pub record-ok-spec : {M : Type 1} → statement M
 record-ok-spec =
-    tie.close (tie.spec (λ c κs. search needs) (λ c κs. search needs) (λ c κs. search needs) returns returns-2 returns-3)
+    tie.close (tie.spec (λ c κs. search needs) (λ c. search needs) (λ c κs. search needs) (λ c. search needs) (λ c κs. search needs) (λ c. search needs) returns returns-2 returns-3)
