@@ -24,31 +24,38 @@ use Rattle.configurations.specs.Configurations.{name-count}
 use Rattle.configurations.specs.LoopAnswer.{Loops, loop, free, loop-answer}
 use Rattle.configurations.specs.Demand.{AnswerRight}
 use Rattle.configurations.proofs.Demand.{demanded}
-use Rattle.bargewicker.specs.Questions.{accepted, judge, probe-in, phase-from, command-in, loop-with, Reply, refuse, give, probed, phased, commanded, looped, check, on-sheet, placed, reply, reply-command, reply-loop, bytes-of-handling, bytes-of-loops, present-right}
-use Rattle.bargewicker.specs.Numbers.{numbers, values, handling-values}
+use Rattle.model.specs.Replies.{Reply, refuse, give, check, told-as, numbers}
+use Rattle.sheet.specs.Asked.{on-sheet}
+use Rattle.sheet.proofs.AskedLaws.{refused-first, asked}
+use Rattle.loops.specs.LoopQuestion.{present-right, bytes-of-loops, reply-loop}
+use Rattle.bargewicker.specs.Questions.{Answer, accepted, judge, probe-in, phase-from, command-in, loop-with, probed, phased, commanded, looped, placed, reply, reply-command, bytes-of-handling}
+use Rattle.bargewicker.specs.Numbers.{values, handling-values}
 use Rattle.bw.specs.Packed.{Field, word, unpacked, packed, kinds-of-probe, kinds-of-phase, kinds-of-command, kinds-of-loop, NothingLost}
-use Rattle.bargewicker.proofs.FaceLaws.{refused-first, asked}
 use Rattle.bw.proofs.SentCount.{children-most}
 use Rattle.bw.proofs.AnswerBounds.{state-left, few, found-small, do-small, reached-small, left-small, sent-small}
 use Rattle.bw.proofs.ReadBack.{back-judge, back-refused, back-nothing, back-clause, back-reached, back-do, back-command, back-free, back-loop}
 
 -- the numbers of a reply are read back from its word
-abbrev Kept : List (List Field) → Reply → Type 0
-Kept ks r = unpacked ks (word ks (numbers r)) ≡ numbers r
+abbrev Kept : List (List Field) → Reply Answer → Type 0
+Kept ks r = unpacked ks (word ks (numbers values r)) ≡ numbers values r
 
 -- what holds of every refusal, and of what is given where no check refuses, holds of a reply
-module _ (P : Reply → Type 0) (no : (n : ℕ) → 1 ≤ n → n ≤ 15 → P (refuse n)) where
-  checked-by : (ok : Bool) (n : ℕ) (rest : Unit {0} → Reply) → 1 ≤ n → n ≤ 15 → (ok ≡ true → P (rest tt)) → P (check ok n rest)
+module _ (P : Reply Answer → Type 0) (no : (n : ℕ) → 1 ≤ n → n ≤ 15 → P (refuse n)) where
+  checked-by : (ok : Bool) (n : ℕ) (rest : Unit {0} → Reply Answer) → 1 ≤ n → n ≤ 15 → (ok ≡ true → P (rest tt)) → P (check ok n rest)
   checked-by ok n rest l m pass = choose-case P ok rest (λ _. refuse n) pass (λ _. no n l m)
 
-  by-sheet : (b : List ℕ) (rest : Class → Reply) → (Accepted b → P (rest (class-of b))) → P (on-sheet b rest)
+  -- the same of a reply that is told in another type
+  told-by : {A : Type 0} (f : A → Answer) (ok : Bool) (n : ℕ) (rest : Unit {0} → Reply A) → 1 ≤ n → n ≤ 15 → (ok ≡ true → P (told-as f (rest tt))) → P (told-as f (check ok n rest))
+  told-by f ok n rest l m pass = choose-case (λ r. P (told-as f r)) ok rest (λ _. refuse n) pass (λ _. no n l m)
+
+  by-sheet : (b : List ℕ) (rest : Class → Reply Answer) → (Accepted b → P (rest (class-of b))) → P (on-sheet b rest)
   by-sheet b rest pass = go (refusal b) refl (refusal-most b)
     where
       go : (n : ℕ) → refusal b ≡ n → n ≤ 9 → P (on-sheet b rest)
       go zero e l = subst P (sym (asked b rest e)) (pass e)
       go (suc n) e l = subst P (sym (refused-first b rest (suc n) (sym e) (omega arith))) (no (suc n) (omega arith) (omega arith))
 
-  placed-by : (b l : List ℕ) (q : ℕ) (rest : Class → Reply) → (Accepted b → list-right (class-of b) l ≡ true → q < own-states (class-of b) → P (rest (class-of b)))
+  placed-by : (b l : List ℕ) (q : ℕ) (rest : Class → Reply Answer) → (Accepted b → list-right (class-of b) l ≡ true → q < own-states (class-of b) → P (rest (class-of b)))
       → P (placed b l q rest)
   unfolding placed
   placed-by b l q rest pass =
@@ -58,15 +65,13 @@ module _ (P : Reply → Type 0) (no : (n : ℕ) → 1 ≤ n → n ≤ 15 → P (
 
 -- every refusal is read back
 no-kinds : (n : ℕ) → n ≤ 15 → Kept [] (refuse n)
-unfolding numbers
 no-kinds n l = back-judge n (omega arith)
 
 no-answer : (k : List Field) (ks : List (List Field)) (n : ℕ) → 1 ≤ n → n ≤ 15 → Kept (k ∷ ks) (refuse n)
-unfolding numbers
 no-answer k ks n l m = back-refused k ks n l (omega arith)
 
 accepted-kept : Kept [] (give accepted [])
-unfolding numbers values
+unfolding values
 accepted-kept = back-judge 0 (omega arith)
 
 -- all that the probe, the when phase and the loop question answer fits
@@ -75,7 +80,7 @@ module _ (b : List ℕ) (h : Bytes b) (a : Accepted b) (ks : List Child) where
   c = class-of b
 
   probe-kept : (q : ℕ) → Kept kinds-of-probe (give (probed (probe c ks q)) [])
-  unfolding numbers values
+  unfolding values
   probe-kept q = go (probe c ks q) refl
     where
       go : (p : Probed) → probe c ks q ≡ p → Kept kinds-of-probe (give (probed p) [])
@@ -85,7 +90,7 @@ module _ (b : List ℕ) (h : Bytes b) (a : Accepted b) (ks : List Child) where
       go (found i stay) e = let (l, m) = found-small b h a ks q i stay e in back-clause i 2 0 l (omega arith) (omega arith)
 
   phase-kept : (q : ℕ) → q < own-states c → Kept kinds-of-phase (give (phased (phase c ks q)) [])
-  unfolding numbers values
+  unfolding values
   phase-kept q low = go (phase c ks q) refl
     where
       go : (p : Phase) → phase c ks q ≡ p → Kept kinds-of-phase (give (phased p) [])
@@ -108,7 +113,7 @@ module _ (b : List ℕ) (h : Bytes b) (a : Accepted b) (ks : List Child) where
 
   -- demand 3 bounds the loop question's answer
   loop-kept : (present : ℕ) → name-count c present ≤ 20 → Kept kinds-of-loop (give (looped (loop-answer c present)) (bytes-of-loops (loop-answer c present)))
-  unfolding numbers values
+  unfolding values
   loop-kept present N = go (loop-answer c present) (demanded c (sound b h a) present .right)
     where
       go : (x : Loops) → AnswerRight c present x → Kept kinds-of-loop (give (looped x) (bytes-of-loops x))
@@ -122,7 +127,7 @@ module _ (b : List ℕ) (h : Bytes b) (a : Accepted b) (ks : List Child) where
 
 -- a command's answer
 handling-kept : (x : Handling) → state-left x < 256 → length (bytes-of-handling x) < 4294967296 → Kept kinds-of-command (give (commanded x) (bytes-of-handling x))
-unfolding numbers values handling-values
+unfolding values handling-values
 handling-kept (handled sent s) l m = back-command 1 s (length (bytes-of-handling (handled sent s))) (omega arith) l m refl
 handling-kept (ignored s) l m = back-command 0 s 0 (omega arith) l (omega arith) refl
 
@@ -134,12 +139,12 @@ nothing-lost (probe-in b l q) h = placed-by (Kept kinds-of-probe) (no-answer _ _
 nothing-lost (phase-from b l q) h = placed-by (Kept kinds-of-phase) (no-answer _ _) b l q _ (λ a _ low. phase-kept b h a (children-of l) q low)
 nothing-lost (command-in b l q m out) h =
     placed-by (Kept kinds-of-command) (no-answer _ _) b l q _ λ a right low.
-    checked-by (Kept kinds-of-command) (no-answer _ _) (leb m 63) 12 _ (omega arith) (omega arith) λ _.
-    checked-by (Kept kinds-of-command) (no-answer _ _) (leb (length (bytes-of-handling (command (class-of b) (children-of l) q m))) (length out)) 15 _ (omega arith) (omega arith) λ _.
+    told-by (Kept kinds-of-command) (no-answer _ _) commanded (leb m 63) 12 _ (omega arith) (omega arith) λ _.
+    told-by (Kept kinds-of-command) (no-answer _ _) commanded (leb (length (bytes-of-handling (command (class-of b) (children-of l) q m))) (length out)) 15 _ (omega arith) (omega arith) λ _.
     handling-kept (command (class-of b) (children-of l) q m) (left-small b h a (children-of l) q low m) (sent-small b h a (children-of l) q low m (children-most (class-of b) l right))
 nothing-lost (loop-with b present out) h =
     by-sheet (Kept kinds-of-loop) (no-answer _ _) b _ λ a.
-    checked-by (Kept kinds-of-loop) (no-answer _ _) (present-right (class-of b) present) 13 _ (omega arith) (omega arith) λ _.
-    checked-by (Kept kinds-of-loop) (no-answer _ _) (leb (name-count (class-of b) present) 20) 14 _ (omega arith) (omega arith) λ e.
-    checked-by (Kept kinds-of-loop) (no-answer _ _) (leb (2 * name-count (class-of b) present) (length out)) 15 _ (omega arith) (omega arith) λ _.
+    told-by (Kept kinds-of-loop) (no-answer _ _) looped (present-right (class-of b) present) 13 _ (omega arith) (omega arith) λ _.
+    told-by (Kept kinds-of-loop) (no-answer _ _) looped (leb (name-count (class-of b) present) 20) 14 _ (omega arith) (omega arith) λ e.
+    told-by (Kept kinds-of-loop) (no-answer _ _) looped (leb (2 * name-count (class-of b) present) (length out)) 15 _ (omega arith) (omega arith) λ _.
     loop-kept b h a [] present (leb-true (name-count (class-of b) present) 20 e)

@@ -14,8 +14,9 @@ use Rattle.model.specs.declared.Referrer.the-variants.{MoveTo, Do, Stay}
 use Rattle.model.specs.Answers.{ending-as}
 use Rattle.model.specs.declared.Ending.{Ending}
 use Rattle.model.specs.declared.Ending.the-variants.{ByNone, ByStay, ByDo}
+use Rattle.model.specs.Values.{probed-values, referrer-values, settled-values}
 use Rattle.bargewicker.specs.Questions.{Question}
-use Rattle.bargewicker.specs.Numbers.{referrer-values, settled-values, Answered}
+use Rattle.bargewicker.specs.Promises.{AnswerTo, numbers-of, Promised}
 use Rattle.bw.specs.Packed.{Field, side-by-side, fields, word, kinds, packed, kinds-of-probe, kinds-of-phase, kinds-of-command, kinds-of-loop, Returned, OneWordAndBuffer}
 
 -- the largest number of a refusal is 15
@@ -26,6 +27,19 @@ small x = elim x [ SheetLength ↦ omega arith | Contents ↦ omega arith | Empt
 pub word-refused : (ks : List (List Field)) (x : Refusal) (r : ℕ) → r ≡ number-of x → (ns : List ℕ) → ns ≡ number-of x ∷ [] → r ≡ word ks ns
 unfolding word fields side-by-side
 word-refused ks x r e ns f = let l = small x in let z : r ≡ word ks (number-of x ∷ []) = omega arith in z ∙ ap (word ks) (sym f)
+
+-- what is given has the word of its numbers
+pub word-given : (ks : List (List Field)) (r : ℕ) (ms ns : List ℕ) → r ≡ word ks ms → ns ≡ ms → r ≡ word ks ns
+word-given ks r ms ns e f = e ∙ ap (word ks) (sym f)
+
+-- an accepted sheet, and a probe that finds nothing, have the word 0
+pub word-accepted : (ns : List ℕ) → ns ≡ 0 ∷ [] → 0 ≡ word [] ns
+unfolding word fields side-by-side
+word-accepted ns f = rw f
+
+pub word-nothing : (ns : List ℕ) → ns ≡ 0 ∷ [] → 0 ≡ word kinds-of-probe (0 ∷ ns)
+unfolding word fields side-by-side
+word-nothing ns f = rw f
 
 -- the probe: a clause with each of the three referrers
 module _ (i : ℕ) (r : Referrer) where
@@ -51,37 +65,37 @@ module _ (q m : ℕ) (l : q < 256) where
   unfolding word fields side-by-side
   word-by-stay e f = rw f (omega arith)
 
-  pub word-by-do : (e : Ending) (c : ℕ) → e ≡ ByDo c → 512 + (q * 65536 + m % 256 * 16777216) + c % 256 * 4294967296 ≡ word kinds-of-phase (0 ∷ settled-values (ending-as e) q m)
+  pub word-by-do : (e : Ending) (c : ℕ) → e ≡ ByDo c → c < 256 → 512 + (q * 65536 + m % 256 * 16777216) + c * 4294967296 ≡ word kinds-of-phase (0 ∷ settled-values (ending-as e) q m)
   unfolding word fields side-by-side
-  word-by-do e c f = rw f (omega arith)
+  word-by-do e c f k = rw f (omega arith)
 
-  pub word-loops : (ns : List ℕ) → ns ≡ 0 ∷ 3 ∷ q ∷ m ∷ [] → 768 + q * 65536 + m % 256 * 16777216 ≡ word kinds-of-phase ns
+  pub word-loops : (ns : List ℕ) → ns ≡ 3 ∷ q ∷ m ∷ [] → 768 + q * 65536 + m % 256 * 16777216 ≡ word kinds-of-phase (0 ∷ ns)
   unfolding word fields side-by-side
   word-loops ns f = rw f (omega arith)
 
 -- the command: ignored, or handled
 module _ (q : ℕ) (l : q < 256) (ns : List ℕ) where
-  pub word-ignored : ns ≡ 0 ∷ 0 ∷ q ∷ 0 ∷ [] → q * 65536 ≡ word kinds-of-command ns
+  pub word-ignored : ns ≡ 0 ∷ q ∷ 0 ∷ [] → q * 65536 ≡ word kinds-of-command (0 ∷ ns)
   unfolding word fields side-by-side
   word-ignored f = rw f (omega arith)
 
-  pub word-handled : (n : ℕ) → ns ≡ 0 ∷ 1 ∷ q ∷ n ∷ [] → 256 + q * 65536 + n % 4294967296 * 4294967296 ≡ word kinds-of-command ns
+  pub word-handled : (n : ℕ) → ns ≡ 1 ∷ q ∷ n ∷ [] → 256 + q * 65536 + n % 4294967296 * 4294967296 ≡ word kinds-of-command (0 ∷ ns)
   unfolding word fields side-by-side
   word-handled n f = rw f (omega arith)
-      -- the loop question: a loop, or free
 
-  pub word-loop : (k : ℕ) → k < 4294967296 → ns ≡ 0 ∷ 1 ∷ k ∷ q ∷ [] → 256 + q * 65536 + k * 4294967296 ≡ word kinds-of-loop ns
+  -- the loop question: a loop, or free
+  pub word-loop : (k : ℕ) → k < 4294967296 → ns ≡ 1 ∷ k ∷ q ∷ [] → 256 + q * 65536 + k * 4294967296 ≡ word kinds-of-loop (0 ∷ ns)
   unfolding word fields side-by-side
   word-loop k m f = rw f (omega arith)
 
-pub word-free : (m : ℕ) (ns : List ℕ) → ns ≡ 0 ∷ 0 ∷ m ∷ [] → m % 256 * 16777216 ≡ word kinds-of-loop ns
+pub word-free : (m : ℕ) (ns : List ℕ) → ns ≡ 0 ∷ m ∷ [] → m % 256 * 16777216 ≡ word kinds-of-loop (0 ∷ ns)
 unfolding word fields side-by-side
 word-free m ns f = rw f (omega arith)
 
--- the word of what a question with a buffer is answered
-pub returned : (q : Question) (r : ℕ) (ns after : List ℕ) → r ≡ word (kinds q) ns → Answered q ns after → Returned q r after
+-- the word of what a question is answered
+pub returned : (q : Question) (a : AnswerTo q) (w : ℕ) (after : List ℕ) → w ≡ word (kinds q) (numbers-of q a) → Promised q a after → Returned q w after
 unfolding packed
-returned q r ns after e a = record { word-is = e ∙ ap (word (kinds q)) (a .numbers-are); buffer-is = a .buffer-is }
+returned q a w after e h = record { word-is = e ∙ ap (word (kinds q)) (h .numbers-are); buffer-is = h .buffer-is }
 
 -- the promise leaves one word and one content of the buffer
 pub one-word-and-buffer : OneWordAndBuffer

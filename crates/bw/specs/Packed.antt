@@ -7,8 +7,9 @@ use lib.Dec.{eqb}
 use lib.ListN.{getD}
 use Rattle.model.specs.Words.{choose}
 use Rattle.model.specs.Words.{Bytes}
-use Rattle.bargewicker.specs.Questions.{Question, judge, probe-in, phase-from, command-in, loop-with, lent, reply, buffer-after}
-use Rattle.bargewicker.specs.Numbers.{numbers}
+use Rattle.model.specs.Replies.{buffer-after}
+use Rattle.bargewicker.specs.Questions.{Question, judge, probe-in, phase-from, command-in, loop-with, lent, reply}
+use Rattle.bargewicker.specs.Numbers.{numbers-for}
 
 -- a field of a word: its lowest bit, and how many bits it has
 pub record Field : Type 0 where
@@ -93,7 +94,7 @@ word ks ns = side-by-side (fields ks ns) ns
 
 -- the word of a question
 unfoldable pub packed : Question → ℕ
-packed q = word (kinds q) (numbers (reply q))
+packed q = word (kinds q) (numbers-for q)
 
 -- the word and the buffer afterwards are those of the rules
 pub record Returned (q : Question) (r : ℕ) (after : List ℕ) : Type 0 where
@@ -119,7 +120,7 @@ sheet-of (loop-with b present out) = b
 
 -- every number of the answer is read back from its word, whatever bytes the sheet is
 abbrev pub NothingLost : Type 0
-NothingLost = (q : Question) → Bytes (sheet-of q) → unpacked (kinds q) (packed q) ≡ numbers (reply q)
+NothingLost = (q : Question) → Bytes (sheet-of q) → unpacked (kinds q) (packed q) ≡ numbers-for q
 
 -- two words that a function returns, and two contents of the buffer afterwards, are one
 abbrev pub OneWordAndBuffer : Type 0

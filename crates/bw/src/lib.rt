@@ -1,18 +1,24 @@
 // The face for C: each question as an exported function that returns one word. A slice is a pointer and a length to C; nothing more is
 // asked of the caller, and a refusal writes nothing. What a word holds is in specs/Packed.antt, and for C in include/bargewicker.h.
-use bargewicker::CommandAnswer;
-use bargewicker::JudgeAnswer;
-use bargewicker::LoopAnswer;
-use bargewicker::PhaseAnswer;
-use bargewicker::ProbeAnswer;
-use bargewicker::refusal_number;
+use model::CommandAnswer;
 use model::Ending;
+use model::Handling;
+use model::JudgeAnswer;
+use model::LoopAnswer;
+use model::Loops;
 use model::OwnState;
+use model::Phase;
+use model::PhaseAnswer;
+use model::ProbeAnswer;
+use model::Probed;
 use model::Referrer;
+use model::refusal_number;
 ghost use mathlib.Core.Path.{_≡_};
+ghost use mathlib.Core.List.{[], _∷_};
+ghost use Rattle.model.specs.Values.{probed-values, settled-values, phase-values};
+ghost use Rattle.model.specs.Answers.{probed-as, ending-as, phase-as, handled-values, looped-values, judge-numbers, probe-numbers, phase-numbers, command-numbers, loop-numbers};
 ghost use Rattle.bargewicker.specs.Questions.{judge, probe-in, phase-from, command-in, loop-with};
-ghost use Rattle.bargewicker.specs.Answers.{probe-numbers, phase-numbers, command-numbers, loop-numbers};
-ghost use Rattle.bw.specs.Packed.{packed, word, kinds-of-probe, kinds-of-phase, kinds-of-command, kinds-of-loop, Returned};
+ghost use Rattle.bw.specs.Packed.{word, kinds-of-probe, kinds-of-phase, kinds-of-command, kinds-of-loop, Returned};
 
 // A value times one of these stands in its field of the word.
 const KIND: u64 = 0x100;
@@ -36,19 +42,15 @@ const TARGET: u64 = 0x10000000000;
 // Is this byte string a class sheet?
 #[no_mangle]
 pub extern "C" fn bw_judge(sheet: &[u8]) -> u64
-    ensures { λ r. ⌜ r ≡ packed (judge (now (sheet .entry))) ⌝ }
+    ensures { λ r. ⌜ Returned (judge (now (sheet .entry))) r [] ⌝ }
 {
-    let answer = bargewicker::judge(sheet);
-    match answer {
-        JudgeAnswer::Accepted => 0,
-        JudgeAnswer::Refused(x) => refusal_number(x),
-    }
+    pack_judge(bargewicker::judge(sheet))
 }
 
 // Which clause of the state is the first whose guard these children make true?
 #[no_mangle]
 pub extern "C" fn bw_probe(sheet: &[u8], children: &[u8], state: u8) -> u64
-    ensures { λ r. ⌜ r ≡ packed (probe-in (now (sheet .entry)) (now (children .entry)) state) ⌝ }
+    ensures { λ r. ⌜ Returned (probe-in (now (sheet .entry)) (now (children .entry)) state) r [] ⌝ }
 {
     pack_probe(bargewicker::probe(sheet, children, state))
 }
@@ -56,7 +58,7 @@ pub extern "C" fn bw_probe(sheet: &[u8], children: &[u8], state: u8) -> u64
 // Where does the when phase from the state settle with these children, or does it loop?
 #[no_mangle]
 pub extern "C" fn bw_when_phase(sheet: &[u8], children: &[u8], state: u8) -> u64
-    ensures { λ r. ⌜ r ≡ packed (phase-from (now (sheet .entry)) (now (children .entry)) state) ⌝ }
+    ensures { λ r. ⌜ Returned (phase-from (now (sheet .entry)) (now (children .entry)) state) r [] ⌝ }
 {
     pack_phase(bargewicker::when_phase(sheet, children, state))
 }
@@ -83,20 +85,65 @@ pub extern "C" fn bw_loop(sheet: &[u8], present: u8, out: &mut [u8]) -> u64
     pack_loop(bargewicker::loop_question(sheet, present, out))
 }
 
-// The probe's word.
+// The word of each answer: a refusal's number, or what is given.
+fn pack_judge(answer: JudgeAnswer) -> u64
+    ensures { λ r. ⌜ r ≡ word [] (judge-numbers answer) ⌝ }
+{
+    match answer {
+        JudgeAnswer::Refused(x) => refusal_number(x),
+        JudgeAnswer::Accepted => 0,
+    }
+}
+
 fn pack_probe(answer: ProbeAnswer) -> u64
     ensures { λ r. ⌜ r ≡ word kinds-of-probe (probe-numbers answer) ⌝ }
 {
     match answer {
         ProbeAnswer::Refused(x) => refusal_number(x),
-        ProbeAnswer::Nothing => 0,
-        ProbeAnswer::Clause(i, r) => pack_clause(i, r),
+        ProbeAnswer::Given(p) => pack_probed(p),
     }
 }
 
-// A clause's word: its number, its referrer and target.
+fn pack_phase(answer: PhaseAnswer) -> u64
+    ensures { λ r. ⌜ r ≡ word kinds-of-phase (phase-numbers answer) ⌝ }
+{
+    match answer {
+        PhaseAnswer::Refused(x) => refusal_number(x),
+        PhaseAnswer::Given(p) => pack_phased(p),
+    }
+}
+
+fn pack_command(answer: CommandAnswer) -> u64
+    ensures { λ r. ⌜ r ≡ word kinds-of-command (command-numbers answer) ⌝ }
+{
+    match answer {
+        CommandAnswer::Refused(x) => refusal_number(x),
+        CommandAnswer::Given(h) => pack_handling(h),
+    }
+}
+
+fn pack_loop(answer: LoopAnswer) -> u64
+    ensures { λ r. ⌜ r ≡ word kinds-of-loop (loop-numbers answer) ⌝ }
+{
+    match answer {
+        LoopAnswer::Refused(x) => refusal_number(x),
+        LoopAnswer::Given(l) => pack_loops(l),
+    }
+}
+
+// What the probe finds.
+fn pack_probed(probed: Probed) -> u64
+    ensures { λ r. ⌜ r ≡ word kinds-of-probe (0 ∷ probed-values (probed-as probed)) ⌝ }
+{
+    match probed {
+        Probed::Nothing => 0,
+        Probed::Found(i, r) => pack_clause(i, r),
+    }
+}
+
+// A clause: its number, its referrer and target.
 fn pack_clause(number: usize, referrer: Referrer) -> u64
-    ensures { λ r. ⌜ r ≡ word kinds-of-probe (probe-numbers (ProbeAnswer.Clause number referrer)) ⌝ }
+    ensures { λ r. ⌜ r ≡ word kinds-of-probe (0 ∷ probed-values (probed-as (Probed.Found number referrer))) ⌝ }
 {
     let clause = KIND + (number as u64) % 65536 * CLAUSE;
     match referrer {
@@ -106,49 +153,44 @@ fn pack_clause(number: usize, referrer: Referrer) -> u64
     }
 }
 
-// The when phase's word.
-fn pack_phase(answer: PhaseAnswer) -> u64
-    ensures { λ r. ⌜ r ≡ word kinds-of-phase (phase-numbers answer) ⌝ }
+// A when phase.
+fn pack_phased(phase: Phase) -> u64
+    ensures { λ r. ⌜ r ≡ word kinds-of-phase (0 ∷ phase-values (phase-as phase)) ⌝ }
 {
-    match answer {
-        PhaseAnswer::Refused(x) => refusal_number(x),
-        PhaseAnswer::Settled(e, q, m) => pack_settled(e, q, m),
-        PhaseAnswer::Loops(q, m) => 3 * KIND + (q.0 as u64) * STATE + (m as u64) % 256 * MOVES,
+    match phase {
+        Phase::Settled(e, q, m) => pack_settled(e, q, m),
+        Phase::Loops(q, m) => 3 * KIND + (q.0 as u64) * STATE + (m as u64) % 256 * MOVES,
     }
 }
 
-// A settled phase's word: by what, the state, the moves.
+// A settled phase: by what, the state, the moves.
 fn pack_settled(ending: Ending, q: OwnState, m: usize) -> u64
-    ensures { λ r. ⌜ r ≡ word kinds-of-phase (phase-numbers (PhaseAnswer.Settled ending q m)) ⌝ }
+    ensures { λ r. ⌜ r ≡ word kinds-of-phase (0 ∷ settled-values (ending-as ending) (q .0) m) ⌝ }
 {
     let reached = (q.0 as u64) * STATE + (m as u64) % 256 * MOVES;
     match ending {
         Ending::ByNone => reached,
         Ending::ByStay => KIND + reached,
-        Ending::ByDo(c) => 2 * KIND + reached + (c as u64) % 256 * TO_DO,
+        Ending::ByDo(c) => 2 * KIND + reached + (c as u64) * TO_DO,
     }
 }
 
-// The command's word.
-fn pack_command(answer: CommandAnswer) -> u64
-    ensures { λ r. ⌜ r ≡ word kinds-of-command (command-numbers answer) ⌝ }
+// The handling of a command.
+fn pack_handling(handling: Handling) -> u64
+    ensures { λ r. ⌜ r ≡ word kinds-of-command (0 ∷ handled-values handling) ⌝ }
 {
-    match answer {
-        CommandAnswer::Refused(x) => refusal_number(x),
-        CommandAnswer::Ignored(q) => (q.0 as u64) * STATE,
-        CommandAnswer::Handled(q, n) => KIND
-            + (q.0 as u64) * STATE
-            + (n as u64) % 4294967296 * WRITTEN,
+    match handling {
+        Handling::Ignored(q) => (q.0 as u64) * STATE,
+        Handling::Handled(q, n) => KIND + (q.0 as u64) * STATE + (n as u64) % 4294967296 * WRITTEN,
     }
 }
 
-// The loop question's word.
-fn pack_loop(answer: LoopAnswer) -> u64
-    ensures { λ r. ⌜ r ≡ word kinds-of-loop (loop-numbers answer) ⌝ }
+// What a class does.
+fn pack_loops(loops: Loops) -> u64
+    ensures { λ r. ⌜ r ≡ word kinds-of-loop (0 ∷ looped-values loops) ⌝ }
 {
-    match answer {
-        LoopAnswer::Refused(x) => refusal_number(x),
-        LoopAnswer::Loop(k, q) => KIND + (q.0 as u64) * STATE + (k as u64) * CONFIGURATION,
-        LoopAnswer::Free(m) => (m as u64) % 256 * MOVES,
+    match loops {
+        Loops::Loop(k, q) => KIND + (q.0 as u64) * STATE + (k as u64) * CONFIGURATION,
+        Loops::Free(m) => (m as u64) % 256 * MOVES,
     }
 }

@@ -1,4 +1,4 @@
--- `bw_command` gives the word of the command's answer, and its buffer.
+-- `bw_command` gives the word of the answer, and its buffer.
 -- Assumes nothing.
 use Rattle.bw.proofs.PackedLaws.{returned}
 use borrow.Author.Needs.{needs}
@@ -6,8 +6,7 @@ use Rattle.bw.proofs.bw_command.Statement.{statement}
 use Rattle.bw.proofs.bw_command.Tie as tie
 
 returns : tie.Need-returns
-returns c = returned _ _ _ _ (c .pack-command .ensures) (c .before .before .before .command .ensures)
+returns c = let a = c .before .before .before in returned _ (a .command .result) _ _ (c .pack-command .ensures) (a .command .ensures)
 
 pub bw-command-spec : {M : Type 1} → statement M
-bw-command-spec =
-    tie.close (tie.spec (λ c κs. search needs) (λ c κs. search needs) (λ c. search needs) returns)
+bw-command-spec = tie.close (tie.spec (λ c κs. search needs) (λ c κs. search needs) (λ c. search needs) returns)
