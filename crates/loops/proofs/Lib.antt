@@ -1,3 +1,4 @@
+pub mod Computing
 pub mod PresentLaws
 pub mod CellLaws
 pub mod SpreadLaws
