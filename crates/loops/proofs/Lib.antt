@@ -8,3 +8,4 @@ pub mod WalkLaws
 pub mod TableLaws
 pub mod SearchLaws
 pub mod LoopQuestionLaws
+pub mod Unique
