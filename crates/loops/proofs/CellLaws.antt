@@ -36,6 +36,11 @@ pub cell-here : (classes : List ℕ) (present i n k s : ℕ) (r : Bool) → k �
 unfolding cell-present
 cell-here classes present i n k s r d l e f = rw (shifted present i, lt-ltb i (in-fours classes) (omega arith), f, e)
 
+-- each of the 256 pairs is of a class below 8 and has a name below 32
+pub pair-small : (k : Child) → List·Memᴰ k (listed 0 256 cell) → Small k
+unfolding cell
+pair-small k m = let (j, low, high, e) = mem-listed 0 256 cell k m in rw e (record { class-small = omega arith; name-small = omega arith })
+
 -- a store at one place of a list that is given by its entries
 module _ (n : ℕ) (f g : ℕ → ℕ) (k v : ℕ) (there : g k ≡ v) (others : (j : ℕ) → (j ≡ k → ⊥) → g j ≡ f j) where
   entry-set : (j : ℕ) → j < n → (j < k) ⊎ (k ≤ j) → (k < j) ⊎ (j ≤ k) → getD (set (listed 0 n f) k v) j 0 ≡ g j
@@ -145,10 +150,8 @@ module _ (classes : List ℕ) (present : ℕ) where
 
   -- a cell that is present is one of the 256 pairs
   pub present-small : (k : Child) → List·Memᴰ k (present-cells classes present) → Small k
-  unfolding present-among cell
-  present-small k m =
-      let (j, low, high, e) = mem-listed 0 256 cell k (keep-mem (λ k. cell-present classes present (k .class) (k .name)) (listed 0 256 cell) k m .0) in
-      rw e (record { class-small = omega arith; name-small = omega arith })
+  unfolding present-among
+  present-small k m = pair-small k (keep-mem (λ k. cell-present classes present (k .class) (k .name)) (listed 0 256 cell) k m .0)
 
 -- what is read of at most twenty cells is the cells
 module _ (ks : List Child) where

@@ -1,3 +1,4 @@
+pub mod Computing
 pub mod PresentLaws
 pub mod CellLaws
 pub mod SpreadLaws
@@ -7,3 +8,4 @@ pub mod WalkLaws
 pub mod TableLaws
 pub mod SearchLaws
 pub mod LoopQuestionLaws
+pub mod Unique

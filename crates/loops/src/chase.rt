@@ -4,7 +4,6 @@ use model::OwnState;
 use node::probing::Turn;
 use node::probing::turn_from;
 use sheet::judging::Places;
-ghost use mathlib.Core.Path.{_≡_};
 ghost use Prim.Native.Nat.{_<_, _≤_};
 ghost use Rattle.sheet.specs.Verdict.{Stands};
 ghost use Rattle.loops.specs.Chase.{MovesTo, Tabulates, WalkIs, Chased};

@@ -3,3 +3,4 @@ pub mod Rules
 pub mod Reading
 pub mod Verdict
 pub mod Asked
+pub mod Samples
