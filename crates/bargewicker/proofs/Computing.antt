@@ -8,9 +8,8 @@ use Rattle.bargewicker.specs.Table.{first-failed, body-checks, sheet-che
 use Rattle.model.proofs.Computing.{computing as computing-model}
 use Rattle.sheet.proofs.Computing.{computing as computing-sheet}
 use Rattle.children.proofs.Computing.{computing as computing-children}
-use Rattle.configurations.proofs.Computing.{computing as computing-configurations}
-use Rattle.loops.specs.LoopQuestion.{bits-below, present-right, bytes-of-loops, reply-loop}
+use Rattle.loops.proofs.Computing.{computing as computing-loops}
 
 unfoldable pub computing : Unit {0}
-unfolding placed bytes-of-handling reply-command reply handling-values values placed-refusal given first-failed body-checks sheet-checks place-checks command-checks loop-checks table computing-model computing-sheet computing-children computing-configurations bits-below present-right bytes-of-loops reply-loop
+unfolding placed bytes-of-handling reply-command reply handling-values values placed-refusal given first-failed body-checks sheet-checks place-checks command-checks loop-checks table computing-model computing-sheet computing-children computing-loops
 computing = tt

@@ -6,3 +6,4 @@ pub mod Branches
 pub mod Parts
 pub mod PartLaws
 pub mod StatementLaws
+pub mod Unique

@@ -7,3 +7,4 @@ pub mod Clauses
 pub mod Patterns
 pub mod Records
 pub mod BodyRules
+pub mod Unique

@@ -1,3 +1,4 @@
 pub mod Computing
 pub mod CrewLaws
 pub mod ListLaws
+pub mod Unique

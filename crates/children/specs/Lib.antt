@@ -1,3 +1,4 @@
 pub mod ChildList
 pub mod NameSets
 pub mod Lists
+pub mod Unique
