@@ -11,14 +11,15 @@ use lib.Seq.{sets-eq, length-sets, take-at}
 use borrow.Author.Tests.{eq-eqb, eqb-true, le-leb, lt-leb}
 use Rattle.model.proofs.Words.{both-ways, and-left, and-right}
 use Rattle.bargewicker.specs.Questions.{judge, probe-in, phase-from, command-in, loop-with, reply}
-use Rattle.bargewicker.specs.Numbers.{numbers, Answered}
+use Rattle.model.specs.Replies.{Answered}
+use Rattle.bargewicker.specs.Numbers.{values, numbers-for}
 use Rattle.texts.specs.Texts.{Appended}
 use Rattle.texts.specs.Fields.{occurs, number-of, string-right, string-bytes, Decodes}
 use Rattle.texts.specs.declared.reading.Number.{Number}
 use Rattle.texts.specs.declared.reading.Number.the-variants.{Is, Bad}
 use Rattle.texts.specs.declared.reading.Decoded.{Decoded}
-use Rattle.lines.specs.Lines.{bad-line, judge-text, probe-text, phase-text, command-line, loop-line, line-of}
-use Rattle.asking.specs.Asking.{judge-verb, loop-verb, probe-verb, phase-verb, command-verb, same-bytes, is-form, verb-of, first, others, with-string, on-number, with-number, placed-answer, sheet-answer, fields-answer, answer-line}
+use Rattle.lines.specs.Lines.{bad-line, judge-text, probe-text, phase-text, command-line, loop-line}
+use Rattle.asking.specs.Asking.{judge-verb, loop-verb, probe-verb, phase-verb, command-verb, same-bytes, is-form, verb-of, first, others, with-string, on-number, with-number, line-of, placed-answer, sheet-answer, fields-answer, answer-line}
 use Rattle.asking.specs.declared.Asked.{Asked}
 use Rattle.asking.specs.declared.Asked.the-variants as A
 use Rattle.asking.specs.declared.Verb.{Verb}
@@ -124,27 +125,27 @@ module _ (l m : List ℕ) (end : ℕ) (f field : List ℕ) (r : Number) (rest : 
 -- ---- questions
 
 module _ (l m : List ℕ) (end : ℕ) (ns : List ℕ) where
-  pub command-put : (b c : List ℕ) (q x : ℕ) (out after : List ℕ) → Answered (command-in b c q x out) ns after → Appended l m 0 (command-line ns after) end
+  pub command-put : (b c : List ℕ) (q x : ℕ) (out after : List ℕ) → Answered values (reply (command-in b c q x out)) out ns after → Appended l m 0 (command-line ns after) end
       → Appended l m 0 (line-of (command-in b c q x out)) end
   unfolding line-of
   command-put b c q x out after h a = rw (h .numbers-are, h .buffer-is) at a
 
-  pub loop-put : (b : List ℕ) (p : ℕ) (out after : List ℕ) → Answered (loop-with b p out) ns after → Appended l m 0 (loop-line ns after) end
+  pub loop-put : (b : List ℕ) (p : ℕ) (out after : List ℕ) → Answered values (reply (loop-with b p out)) out ns after → Appended l m 0 (loop-line ns after) end
       → Appended l m 0 (line-of (loop-with b p out)) end
   unfolding line-of
   loop-put b p out after h a = rw (h .numbers-are, h .buffer-is) at a
 
-  pub probe-put : (k : Asked) (b c : List ℕ) (q : ℕ) (f : List ℕ) → k ≡ A.Probe → ns ≡ numbers (reply (probe-in b c q)) → Appended l m 0 (probe-text ns) end
+  pub probe-put : (k : Asked) (b c : List ℕ) (q : ℕ) (f : List ℕ) → k ≡ A.Probe → ns ≡ numbers-for (probe-in b c q) → Appended l m 0 (probe-text ns) end
       → Appended l m 0 (placed-answer k b c q f) end
   unfolding line-of placed-answer
   probe-put k b c q f h e a = rw h (rw e at a)
 
-  pub phase-put : (k : Asked) (b c : List ℕ) (q : ℕ) (f : List ℕ) → k ≡ A.Phase → ns ≡ numbers (reply (phase-from b c q)) → Appended l m 0 (phase-text ns) end
+  pub phase-put : (k : Asked) (b c : List ℕ) (q : ℕ) (f : List ℕ) → k ≡ A.Phase → ns ≡ numbers-for (phase-from b c q) → Appended l m 0 (phase-text ns) end
       → Appended l m 0 (placed-answer k b c q f) end
   unfolding line-of placed-answer
   phase-put k b c q f h e a = rw h (rw e at a)
 
-  pub judge-put : (v : Verb) (b f : List ℕ) → v ≡ W.Judge → ns ≡ numbers (reply (judge b)) → Appended l m 0 (judge-text ns) end
+  pub judge-put : (v : Verb) (b f : List ℕ) → v ≡ W.Judge → ns ≡ numbers-for (judge b) → Appended l m 0 (judge-text ns) end
       → Appended l m 0 (sheet-answer v b f) end
   unfolding line-of sheet-answer
   judge-put v b f h e a = rw h (rw e at a)

@@ -7,11 +7,13 @@ use mathlib.Core.List.{List, [], _∷_}
 use lib.Dec.{eqb, leb}
 use lib.ListN.{length}
 use Rattle.model.specs.Words.{choose}
-use Rattle.bargewicker.specs.Questions.{judge, probe-in, phase-from, command-in, loop-with}
+use Rattle.model.specs.Replies.{buffer-after}
+use Rattle.bargewicker.specs.Questions.{Question, judge, probe-in, phase-from, command-in, loop-with, reply}
+use Rattle.bargewicker.specs.Numbers.{numbers-for}
 use Rattle.texts.specs.Fields.{occurs, before, behind, number-of, string-right, string-bytes}
 use Rattle.texts.specs.declared.reading.Number.{Number}
 use Rattle.texts.specs.declared.reading.Number.the-variants.{Is, Bad}
-use Rattle.lines.specs.Lines.{bad-line, line-of}
+use Rattle.lines.specs.Lines.{bad-line, judge-text, probe-text, phase-text, command-line, loop-line}
 use Rattle.asking.specs.declared.Asked.{Asked}
 use Rattle.asking.specs.declared.Asked.the-variants as A
 use Rattle.asking.specs.declared.Verb.{Verb}
@@ -71,6 +73,14 @@ on-number Bad rest = bad-line
 
 unfoldable pub with-number : List ℕ → (ℕ → List ℕ → List ℕ) → List ℕ
 with-number f rest = on-number (number-of (first f)) (λ n. rest n (others f))
+
+-- the line of a question's answer by the rules, with the lent buffer after the call where one is lent
+unfoldable pub line-of : Question → List ℕ
+line-of (judge b) = judge-text (numbers-for (judge b))
+line-of (probe-in b l q) = probe-text (numbers-for (probe-in b l q))
+line-of (phase-from b l q) = phase-text (numbers-for (phase-from b l q))
+line-of (command-in b l q m out) = command-line (numbers-for (command-in b l q m out)) (buffer-after (reply (command-in b l q m out)) out)
+line-of (loop-with b present out) = loop-line (numbers-for (loop-with b present out)) (buffer-after (reply (loop-with b present out)) out)
 
 -- COMMAND BUFFER
 unfoldable pub command-answer : List ℕ → List ℕ → ℕ → List ℕ → List ℕ

@@ -17,8 +17,7 @@ ghost use mathlib.Core.Path.{_≡_};
 ghost use lib.ListN.{length};
 ghost use Rattle.bargewicker.specs.Questions.{judge, probe-in, phase-from, command-in, loop-with};
 ghost use Rattle.texts.specs.Texts.{Appended};
-ghost use Rattle.lines.specs.Lines.{line-of};
-ghost use Rattle.asking.specs.Asking.{is-form, verb-of, command-answer, placed-answer, state-answer, list-answer, loop-answer, sheet-answer, fields-answer, answer-line};
+ghost use Rattle.asking.specs.Asking.{is-form, verb-of, line-of, command-answer, placed-answer, state-answer, list-answer, loop-answer, sheet-answer, fields-answer, answer-line};
 
 // The questions of a child list and a state.
 pub enum Asked {

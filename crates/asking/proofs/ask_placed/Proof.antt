@@ -7,10 +7,10 @@ use Rattle.asking.proofs.ask_placed.Statement.{statement}
 use Rattle.asking.proofs.ask_placed.Tie as tie
 
 returns : tie.Need-returns
-returns c = probe-put _ _ _ _ _ _ _ _ _ (c .before .before .before .before .before .enum-told .given .1) (c .before .before .before .before .probe .ensures) (c .before .before .probe-line .ensures)
+returns c = probe-put _ _ _ _ _ _ _ _ _ (c .before .before .before .before .before .enum-told .given .1) (c .before .before .before .before .probe .ensures .numbers-are) (c .before .before .probe-line .ensures)
 
 returns-2 : tie.Need-returns-2
-returns-2 c = phase-put _ _ _ _ _ _ _ _ _ (c .before .before .before .before .before .enum-told2 .given .1) (c .before .before .before .before .when-phase .ensures) (c .before .before .phase-line .ensures)
+returns-2 c = phase-put _ _ _ _ _ _ _ _ _ (c .before .before .before .before .before .enum-told2 .given .1) (c .before .before .before .before .when-phase .ensures .numbers-are) (c .before .before .phase-line .ensures)
 
 returns-3 : tie.Need-returns-3
 unfolding placed-answer

@@ -7,7 +7,7 @@ use Rattle.asking.proofs.ask_sheet.Statement.{statement}
 use Rattle.asking.proofs.ask_sheet.Tie as tie
 
 returns : tie.Need-returns
-returns c = judge-put _ _ _ _ _ _ _ (c .before .before .before .before .before .enum-told .given .1) (c .before .before .before .before .judge .ensures) (c .before .before .judge-line .ensures)
+returns c = judge-put _ _ _ _ _ _ _ (c .before .before .before .before .before .enum-told .given .1) (c .before .before .before .before .judge .ensures .numbers-are) (c .before .before .judge-line .ensures)
 
 returns-2 : tie.Need-returns-2
 unfolding sheet-answer
