@@ -4,6 +4,9 @@ pub mod Bits
 pub mod GuardLaws
 pub mod CheckLaws
 pub mod Branches
+pub mod ReaderLaws
 pub mod Parts
 pub mod PartLaws
 pub mod StatementLaws
+pub mod ReadLaws
+pub mod PartSizes

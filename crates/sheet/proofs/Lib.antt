@@ -2,6 +2,7 @@ pub mod Computing
 pub mod Contents
 pub mod Rules
 pub mod Reading
+pub mod ChildListLaws
 pub mod Sound
 pub mod JudgeLaws
 pub mod PlaceLaws
