@@ -7,7 +7,7 @@ use mathlib.Core.Path.{_≡_, refl, sym, ap, _∙_}
 use mathlib.Core.List.{List, [], _∷_}
 use mathlib.Core.Logic.{_⊎_, inl, inr}
 use lib.ListN.{length, getD, take, drop, length-take, length-drop, drop-of-length-le, List·getD-eq-default}
-use lib.Seq.{getD-take, getD-drop, length-take-le, take-take, take-nil, take-all, drop-drop}
+use lib.Seq.{getD-take, getD-drop, take-take, take-nil, take-all, drop-drop}
 use Rattle.model.proofs.Words.{lt-or-le}
 use Rattle.bodies.specs.Bytes.{Bytes, byte, u16, u32, records, records-from}
 

@@ -1,9 +1,9 @@
 -- Laws about parts in bytes: a list of statement records reads as a part one statement at a time.
 -- Assumes nothing.
-use Prim.Native.Nat.{ℕ, zero, suc, _+_, _*_, _-_, _/_, _<_, _≤_}
+use Prim.Native.Nat.{ℕ, zero, suc, _+_, _-_, _/_, _<_, _≤_}
 use native.Mathlib.Omega.{arith}
-use mathlib.Core.Path.{_≡_, refl, sym, _∙_, ap}
-use mathlib.Core.Bool.{Bool, true, false, _&&_, and-false}
+use mathlib.Core.Path.{_≡_, refl, _∙_, ap}
+use mathlib.Core.Bool.{true, false, _&&_}
 use mathlib.Core.List.{List, [], _∷_}
 use mathlib.Core.Option.{Option, none, some}
 use lib.ListN.{length, take, drop, length-drop}
@@ -12,7 +12,7 @@ use Rattle.model.specs.Words.{maybe, is-some}
 use Rattle.model.specs.Tree.{Statement, Part, end, _then_}
 use Rattle.bodies.specs.Bytes.{byte, records}
 use Rattle.bodies.specs.StatementRecords.{part-length, statement-from, part-with, part-at}
-use Rattle.bodies.specs.StatementReaders.{statement-record, parts-length, behind-statement}
+use Rattle.bodies.specs.StatementReaders.{statement-record, records-beside, behind-statement}
 use Rattle.bodies.specs.PartChecks.{part-right, parts-of, statement-right}
 use Rattle.bodies.specs.declared.statements.StatementRecord.{StatementRecord}
 use Rattle.bodies.proofs.Bytes.{length-records, u16-take, whole, drop-whole, whole-front}
@@ -73,26 +73,23 @@ module _ (d K S : ℕ) (gs part : List ℕ) where
 
   module _ (r : StatementRecord) (e : r ≡ statement-record part) (l : 8 ≤ length part) where
     -- else a part is its first statement, and what that one's parts leave of the records
-    opened : part-of ≡ maybe first-of (λ _. none) (λ s. maybe (part-with (statement-from K S gs (parts-of d K S gs)) (parts-length r) (drop 1 (whole part))) (λ _. none) (λ p. some (s then p)))
+    opened : part-of ≡ maybe first-of (λ _. none) (λ s. maybe (part-with (statement-from K S gs (parts-of d K S gs)) (records-beside r) (drop 1 (whole part))) (λ _. none) (λ p. some (s then p)))
     unfolding part-with
     opened = rw (whole-front part l, part-at-parts d K S gs (take 8 part ∷ drop 1 (whole part)), length-told part r e l, ← front-length part)
 
-    abbrev left : ℕ
-    left = length (drop 1 (whole part))
-
-    behind-count : left ≡ length part / 8 - 1
+    behind-count : length (drop 1 (whole part)) ≡ length part / 8 - 1
     behind-count = length-drop 1 (whole part) ∙ ap (λ (n : ℕ). n - 1) (length-records (length part / 8) part)
 
     -- no part where the first statement's parts are cut off
-    pub part-cut : length part / 8 ≤ parts-length r → part-of ≡ none
-    part-cut h = opened ∙ rw (part-past (statement-from K S gs (parts-of d K S gs)) (parts-length r) (drop 1 (whole part)) (omega (arith, behind-count))) (not-made first-of)
+    pub part-cut : length part / 8 ≤ records-beside r → part-of ≡ none
+    part-cut h = opened ∙ rw (part-past (statement-from K S gs (parts-of d K S gs)) (records-beside r) (drop 1 (whole part)) (omega (arith, behind-count))) (not-made first-of)
 
     -- else the first statement with its parts, and the part behind it
-    pub part-step : parts-length r < length part / 8 → part-of ≡ maybe first-of (λ _. none) (λ s. maybe (part-at d K S gs (whole (behind-statement r part))) (λ _. none) (λ p. some (s then p)))
+    pub part-step : records-beside r < length part / 8 → part-of ≡ maybe first-of (λ _. none) (λ s. maybe (part-at d K S gs (whole (behind-statement r part))) (λ _. none) (λ p. some (s then p)))
     part-step h =
         opened
-        ∙ rw (part-skip (statement-from K S gs (parts-of d K S gs)) (parts-length r) (drop 1 (whole part)) (omega (arith, behind-count)), drop-drop (parts-length r) 1 (whole part))
-        (rw (← drop-whole (1 + parts-length r) part, part-at-parts d K S gs (whole (behind-statement r part))))
+        ∙ rw (part-skip (statement-from K S gs (parts-of d K S gs)) (records-beside r) (drop 1 (whole part)) (omega (arith, behind-count)), drop-drop (records-beside r) 1 (whole part))
+        (rw (← drop-whole (1 + records-beside r) part, part-at-parts d K S gs (whole (behind-statement r part))))
 
 -- what the judge asks of a part, in the order of its tests
 module _ (d K S : ℕ) (gs part : List ℕ) where
@@ -107,18 +104,18 @@ module _ (d K S : ℕ) (gs part : List ℕ) where
   right-empty l = rw (part-empty d K S gs part l)
 
   module _ (r : StatementRecord) (e : r ≡ statement-record part) (l : 8 ≤ length part) where
-    pub right-cut : length part / 8 ≤ parts-length r → part-right d K S gs part ≡ false
+    pub right-cut : length part / 8 ≤ records-beside r → part-right d K S gs part ≡ false
     unfolding part-right
     right-cut h = rw (part-cut d K S gs part r e l h)
 
-    right-step : parts-length r < length part / 8 → part-right d K S gs part ≡ (statement-right d K S gs part && part-right d K S gs (behind-statement r part))
+    right-step : records-beside r < length part / 8 → part-right d K S gs part ≡ (statement-right d K S gs part && part-right d K S gs (behind-statement r part))
     unfolding part-right
     right-step h =
         rw (part-step d K S gs part r e l h, right-first)
         (both-there (first-of d K S gs part) (part-of d K S gs (behind-statement r part)) _then_)
 
-    pub right-broken : parts-length r < length part / 8 → statement-right d K S gs part ≡ false → part-right d K S gs part ≡ false
+    pub right-broken : records-beside r < length part / 8 → statement-right d K S gs part ≡ false → part-right d K S gs part ≡ false
     right-broken h f = right-step h ∙ rw f
 
-    pub right-goes-on : (p : List ℕ) → p ≡ behind-statement r part → parts-length r < length part / 8 → statement-right d K S gs part ≡ true → part-right d K S gs part ≡ part-right d K S gs p
+    pub right-goes-on : (p : List ℕ) → p ≡ behind-statement r part → records-beside r < length part / 8 → statement-right d K S gs part ≡ true → part-right d K S gs part ≡ part-right d K S gs p
     right-goes-on p ep h t = right-step h ∙ rw (t, ep)

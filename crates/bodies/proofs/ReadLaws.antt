@@ -1,8 +1,7 @@
 -- Laws about lists that read as a part: what the part begins with, by the record at the front of the list.
 -- Assumes nothing.
 use Prim.Native.Nat.{ℕ, zero, suc, _/_, _<_, _≤_}
-use native.Mathlib.Omega.{arith}
-use mathlib.Core.Path.{_≡_, refl, sym, _∙_, ap}
+use mathlib.Core.Path.{_≡_, refl, sym, _∙_}
 use mathlib.Core.Bool.{Bool, true, false}
 use mathlib.Core.List.{List}
 use mathlib.Core.Logic.{_⊎_, inl, inr}
@@ -17,14 +16,14 @@ use Rattle.bodies.specs.Bytes.{byte}
 use Rattle.bodies.specs.GuardRecords.{Read, got, broken, by-read, guard-from}
 use Rattle.bodies.specs.Patterns.{pattern-as}
 use Rattle.bodies.specs.StatementRecords.{do-right, move-right}
-use Rattle.bodies.specs.StatementReaders.{statement-record, parts-length, then-part, else-part, behind-statement}
+use Rattle.bodies.specs.StatementReaders.{statement-record, records-beside, then-part, else-part, behind-statement}
 use Rattle.bodies.specs.PartChecks.{parts-of, Reads}
 use Rattle.bodies.specs.declared.kinds.Pattern.{Pattern}
 use Rattle.bodies.specs.declared.statements.Branch.{Branch}
 use Rattle.bodies.specs.declared.statements.StatementRecord.{StatementRecord}
 use Rattle.bodies.specs.declared.statements.StatementRecord.the-variants.{Do, MoveTo, If, Unknown}
 use Rattle.bodies.proofs.Bytes.{whole}
-use Rattle.bodies.proofs.ReaderLaws.{Told, told}
+use Rattle.bodies.proofs.ReaderLaws.{told}
 use Rattle.bodies.proofs.PartLaws.{part-of, first-of, part-empty, part-cut, part-step}
 use Rattle.bodies.proofs.StatementLaws.{if-made, made, statement-made}
 
@@ -58,63 +57,62 @@ pub record Begins (gs part : List ℕ) (r : StatementRecord) (p : Part) (s : Sta
   pub reads : Reads gs (behind-statement r part) rest
 
 -- it begins with an if: its guard, its then-part and its else-part
-pub record BeginsIf (gs part : List ℕ) (r : StatementRecord) (p : Part) (b : Branch) : Type 0 where
+pub record BeginsIf (gs part : List ℕ) (p : Part) (b : Branch) : Type 0 where
   pub guard : Guard
   pub stop : ℕ
   pub first : Part
   pub second : Part
-  pub begins : Begins gs part r p (branch guard first second)
+  pub begins : Begins gs part (If b) p (branch guard first second)
   pub guard-reads : guard-from gs (b .guard) ≡ got guard stop
   pub first-reads : Reads gs (then-part b part) first
   pub second-reads : Reads gs (else-part b part) second
 
-module _ (gs part : List ℕ) (p : Part) (R : Reads gs part p) (r : StatementRecord) (e : r ≡ statement-record part) where
-  -- what is made of a record, by the reader of the part
+module _ (gs part : List ℕ) (p : Part) (R : Reads gs part p) where
+  -- the reader of an if's parts, and what is made of a record
+  abbrev parts : List (List ℕ) → Option Part
+  parts = parts-of (R .depth) (R .classes) (R .states) gs
+
   abbrev made-of : StatementRecord → Option Statement
-  made-of = made (R .classes) (R .states) gs (parts-of (R .depth) (R .classes) (R .states) gs) part
+  made-of = made (R .classes) (R .states) gs parts part
 
   -- a list with a record begins with what is made of it
-  begin : 8 ≤ length part → (s : Statement) × (made-of r ≡ some s) × Begins gs part r p s
-  begin l = go (lt-or-le (parts-length r) (length part / 8))
+  begin : (r : StatementRecord) → r ≡ statement-record part → 8 ≤ length part → (s : Statement) × (made-of r ≡ some s) × Begins gs part r p s
+  begin r e l = go (lt-or-le (records-beside r) (length part / 8))
     where
-      go : (parts-length r < length part / 8) ⊎ (length part / 8 ≤ parts-length r) → (s : Statement) × (made-of r ≡ some s) × Begins gs part r p s
+      go : (records-beside r < length part / 8) ⊎ (length part / 8 ≤ records-beside r) → (s : Statement) × (made-of r ≡ some s) × Begins gs part r p s
       go (inl h) =
           let z = sym (part-step (R .depth) (R .classes) (R .states) gs part r e l h) ∙ R .reads in
           let (s, q, x, y, w) = both-got (first-of (R .depth) (R .classes) (R .states) gs part) (part-of (R .depth) (R .classes) (R .states) gs (behind-statement r part)) _then_ p z in
-          let f = statement-made (R .classes) (R .states) gs (parts-of (R .depth) (R .classes) (R .states) gs) part r e l in
+          let f = statement-made (R .classes) (R .states) gs parts part r e l in
           (s, sym f ∙ x, record { rest = q; is = w; reads = record { depth = R .depth; classes = R .classes; states = R .states; reads = y } })
       go (inr h) = absurd (let z : none ≡ some p = sym (part-cut (R .depth) (R .classes) (R .states) gs part r e l h) ∙ R .reads in clash (cc))
 
   -- so it goes by the record
-  pub read-end : r ≡ Unknown → p ≡ end
-  read-end k = go (lt-or-le (length part) 8)
+  pub read-end : Unknown ≡ statement-record part → p ≡ end
+  read-end e = go (lt-or-le (length part) 8)
     where
       go : (length part < 8) ⊎ (8 ≤ length part) → p ≡ end
       go (inl l) = let z : some end ≡ some p = sym (part-empty (R .depth) (R .classes) (R .states) gs part l) ∙ R .reads in cc
-      go (inr l) = let (s, x, b) = begin l in absurd (let z : none ≡ some s = ap made-of (sym k) ∙ x in clash (cc))
+      go (inr l) = let (s, x, b) = begin Unknown e l in absurd (clash (cc))
 
-  pub read-do : (m : ℕ) (c : Pattern) → r ≡ Do m c → Begins gs part r p (send m (pattern-as c))
-  read-do m c k =
-      let t : Told part (Do m c) = rw k at (told part r e) in
-      let (s, x, b) = begin (t .0) in
-      let z = chosen (do-right (R .classes) part) (some (send m (pattern-as c))) s (ap made-of (sym k) ∙ x) in
+  pub read-do : (m : ℕ) (c : Pattern) → Do m c ≡ statement-record part → Begins gs part (Do m c) p (send m (pattern-as c))
+  read-do m c e =
+      let (s, x, b) = begin (Do m c) e (told part (Do m c) e .0) in
+      let z = chosen (do-right (R .classes) part) (some (send m (pattern-as c))) s x in
       let y : s ≡ send m (pattern-as c) = cc in
       rw y at b
 
-  pub read-move : (t : OwnState) → r ≡ MoveTo t → Begins gs part r p (go-to (t .0))
-  read-move t k =
-      let w : Told part (MoveTo t) = rw k at (told part r e) in
-      let (s, x, b) = begin (w .0) in
-      let z = chosen (move-right (R .states) part) (some (go-to (t .0))) s (ap made-of (sym k) ∙ x) in
+  pub read-move : (t : OwnState) → MoveTo t ≡ statement-record part → Begins gs part (MoveTo t) p (go-to (t .0))
+  read-move t e =
+      let (s, x, b) = begin (MoveTo t) e (told part (MoveTo t) e .0) in
+      let z = chosen (move-right (R .states) part) (some (go-to (t .0))) s x in
       let y : s ≡ go-to (t .0) = cc in
       rw y at b
 
-  pub read-if : (b : Branch) → r ≡ If b → BeginsIf gs part r p b
-  read-if b k =
-      let parts = parts-of (R .depth) (R .classes) (R .states) gs in
-      let w : Told part (If b) = rw k at (told part r e) in
-      let (s, x, begins) = begin (w .0) in
-      let z = chosen (eqb (byte part 1) 0) (if-made (R .classes) (R .states) gs parts part b) s (ap made-of (sym k) ∙ x) in
+  pub read-if : (b : Branch) → If b ≡ statement-record part → BeginsIf gs part p b
+  read-if b e =
+      let (s, x, begins) = begin (If b) e (told part (If b) e .0) in
+      let z = chosen (eqb (byte part 1) 0) (if-made (R .classes) (R .states) gs parts part b) s x in
       let (g, n, u, v, eg, eu, ev, es) = all-got (guard-from gs (b .guard)) (parts (whole (then-part b part))) (parts (whole (else-part b part))) s z in
       record {
         guard = g;

@@ -9,7 +9,7 @@ use mathlib.Core.List.{List}
 use lib.Dec.{eqb, ltb}
 use lib.ListN.{length, getD, take, drop, length-take, length-drop, drop-of-length-le}
 use lib.Seq.{take-all}
-use borrow.Author.Tests.{ltb-true, ltb-false, lt-ltb, le-ltb, eq-eqb, ne-eqb}
+use borrow.Author.Tests.{ltb-true, ltb-false, lt-ltb, le-ltb, ne-eqb}
 use Rattle.model.specs.Words.{choose}
 use Rattle.model.specs.Tree.{everyone, of-class}
 use Rattle.model.specs.declared.OwnState.{OwnState}
@@ -18,10 +18,9 @@ use Rattle.bodies.specs.Bytes.{byte, u16, records-from}
 use Rattle.bodies.specs.GuardRecords.{pattern-of}
 use Rattle.bodies.specs.Patterns.{pattern-as}
 use Rattle.bodies.specs.StatementRecords.{part-length}
-use Rattle.bodies.specs.StatementReaders.{pattern-read, by-kind, statement-record, parts-length, behind-statement}
+use Rattle.bodies.specs.StatementReaders.{pattern-read, by-kind, statement-record, records-beside, behind-statement}
 use Rattle.bodies.specs.declared.kinds.Pattern.{Pattern}
 use Rattle.bodies.specs.declared.kinds.Pattern.the-variants.{Everyone, OfClass}
-use Rattle.bodies.specs.declared.statements.Branch.{Branch}
 use Rattle.bodies.specs.declared.statements.StatementRecord.{StatementRecord}
 use Rattle.bodies.specs.declared.statements.StatementRecord.the-variants.{Do, MoveTo, If, Unknown}
 
@@ -90,10 +89,10 @@ module _ (part : List ℕ) where
       at false t (suc (suc (suc k))) h = λ l. omega arith
 
   -- the lengths of its parts are those that the definition goes by
-  pub length-told : (r : StatementRecord) → r ≡ statement-record part → 8 ≤ length part → parts-length r ≡ part-length part
+  pub length-told : (r : StatementRecord) → r ≡ statement-record part → 8 ≤ length part → records-beside r ≡ part-length part
   length-told r e l = at r (told r e)
     where
-      at : (r : StatementRecord) → Told part r → parts-length r ≡ part-length part
+      at : (r : StatementRecord) → Told part r → records-beside r ≡ part-length part
       at (Do m c) (x, k, y, z) = rw k
       at (MoveTo t) (x, k, y) = rw k
       at (If b) (x, k, g, t, s) = rw (k, t, s)
@@ -101,7 +100,7 @@ module _ (part : List ℕ) where
 
 -- a list that has a record gets shorter by what is cut of it
 pub behind-falls : (r : StatementRecord) (part p : List ℕ) → 8 ≤ length part → p ≡ behind-statement r part → length p < length part
-behind-falls r part p l e = omega (arith, ap length e, length-drop ((1 + parts-length r) * 8) part)
+behind-falls r part p l e = omega (arith, ap length e, length-drop ((1 + records-beside r) * 8) part)
 
 pub parts-fall : (i n : ℕ) (part p : List ℕ) → 8 ≤ length part → p ≡ records-from (1 + i) n part → length p < length part
 parts-fall i n part p l e = omega (arith, ap length e, length-take (n * 8) (drop ((1 + i) * 8) part), length-drop ((1 + i) * 8) part)

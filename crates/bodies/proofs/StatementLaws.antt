@@ -1,9 +1,9 @@
 -- Laws about statements in bytes: the record at the front says what is made of it and what its check is, an if asks its guard and its parts
 -- one depth less; and where the statements of an action clause lie.
 -- Assumes nothing.
-use Prim.Native.Nat.{ℕ, zero, suc, _+_, _*_, _-_, _≤_, _<_}
+use Prim.Native.Nat.{ℕ, zero, suc, _+_, _-_, _≤_, _<_}
 use native.Mathlib.Omega.{arith}
-use mathlib.Core.Path.{_≡_, refl, sym, _∙_, ap}
+use mathlib.Core.Path.{_≡_, refl, _∙_, ap}
 use mathlib.Core.Bool.{Bool, true, false, _&&_, and-false}
 use mathlib.Core.List.{List}
 use mathlib.Core.Option.{Option, none, some}
@@ -14,12 +14,12 @@ use borrow.Author.Tests.{ne-eqb}
 use Rattle.model.specs.Words.{choose, maybe, is-some, total}
 use Rattle.model.specs.Tree.{Guard, Statement, send, go-to, branch, Part}
 use Rattle.model.specs.declared.OwnState.{OwnState}
-use Rattle.bodies.specs.Bytes.{byte, u16, records}
+use Rattle.bodies.specs.Bytes.{byte}
 use Rattle.bodies.specs.GuardRecords.{Read, got, broken, is-read, by-read, guard-from}
 use Rattle.bodies.specs.Patterns.{pattern-as}
 use Rattle.bodies.specs.StatementRecords.{do-right, move-right, if-from, statement-from, part-at}
 use Rattle.bodies.specs.StatementReaders.{statement-record, then-part, else-part}
-use Rattle.bodies.specs.Clauses.{in-eights, count-sum, first-statement, statement-count, statement-bytes, statements-of, body-of}
+use Rattle.bodies.specs.Clauses.{count-sum, first-statement, statement-count, statement-bytes, statements-of, body-of}
 use Rattle.bodies.specs.PartChecks.{part-right, parts-of, statement-right}
 use Rattle.bodies.specs.declared.kinds.Pattern.{Pattern}
 use Rattle.bodies.specs.declared.statements.Branch.{Branch}
@@ -27,7 +27,7 @@ use Rattle.bodies.specs.declared.statements.StatementRecord.{StatementRe
 use Rattle.bodies.specs.declared.statements.StatementRecord.the-variants.{Do, MoveTo, If, Unknown}
 use Rattle.bodies.proofs.Bytes.{u16-take, u32-take, whole, from-whole}
 use Rattle.bodies.proofs.ReaderLaws.{Told, told}
-use Rattle.bodies.proofs.PartLaws.{both-there, front, first-of, right-first}
+use Rattle.bodies.proofs.PartLaws.{both-there, front, right-first}
 
 -- something is made of a guard and two values exactly if all are there
 all-there {ℓ κ μ} : {A : Type ℓ} {B : Type κ} {C : Type μ} (r : Read) (o : Option A) (p : Option B) (f : Guard → A → B → C)
@@ -68,6 +68,7 @@ module _ (K S : ℕ) (gs : List ℕ) (part : List (List ℕ) → Option Part) (s
   made (If b) = choose (eqb (byte s 1) 0) (λ _. if-made b) (λ _. none)
   made Unknown = none
 
+  -- and the definition makes the same
   made-if : (b : Branch) → Told s (If b) → if-from gs part (take 8 s) (drop 1 (whole s)) ≡ if-made b
   unfolding if-from
   made-if b (l, k, g, t, e) =
@@ -87,28 +88,31 @@ module _ (K S : ℕ) (gs : List ℕ) (part : List (List ℕ) → Option Part) (s
           rw (front s 0 (omega arith), ne-eqb (byte s 0) 0 (λ z. omega arith), ne-eqb (byte s 0) 1 (λ z. omega arith), ne-eqb (byte s 0) 2 (λ z. omega arith))
 
 -- what the judge asks of the statement at the front, by its record
-module _ (d K S : ℕ) (gs s : List ℕ) (r : StatementRecord) (e : r ≡ statement-record s) (l : 8 ≤ length s) where
-  right-made : statement-right d K S gs s ≡ is-some (made K S gs (parts-of d K S gs) s r)
-  right-made = right-first d K S gs s ∙ ap is-some (statement-made K S gs (parts-of d K S gs) s r e l)
+module _ (d K S : ℕ) (gs s : List ℕ) where
+  right-made : (r : StatementRecord) → r ≡ statement-record s → 8 ≤ length s → statement-right d K S gs s ≡ is-some (made K S gs (parts-of d K S gs) s r)
+  right-made r e l = right-first d K S gs s ∙ ap is-some (statement-made K S gs (parts-of d K S gs) s r e l)
 
-  pub right-do : (m : ℕ) (c : Pattern) → r ≡ Do m c → statement-right d K S gs s ≡ do-right K s
-  right-do m c k = right-made ∙ rw k (there-if (do-right K s) (send m (pattern-as c)))
+  pub right-do : (m : ℕ) (c : Pattern) → Do m c ≡ statement-record s → statement-right d K S gs s ≡ do-right K s
+  right-do m c e = right-made (Do m c) e (told s (Do m c) e .0) ∙ there-if (do-right K s) (send m (pattern-as c))
 
-  pub right-move : (t : OwnState) → r ≡ MoveTo t → statement-right d K S gs s ≡ move-right S s
-  right-move t k = right-made ∙ rw k (there-if (move-right S s) (go-to (t .0)))
+  pub right-move : (t : OwnState) → MoveTo t ≡ statement-record s → statement-right d K S gs s ≡ move-right S s
+  right-move t e = right-made (MoveTo t) e (told s (MoveTo t) e .0) ∙ there-if (move-right S s) (go-to (t .0))
 
-  pub right-unknown : r ≡ Unknown → statement-right d K S gs s ≡ false
-  right-unknown k = right-made ∙ rw k
+  pub right-unknown : Unknown ≡ statement-record s → 8 ≤ length s → statement-right d K S gs s ≡ false
+  right-unknown e l = right-made Unknown e l
 
-  module _ (b : Branch) (k : r ≡ If b) where
+  module _ (b : Branch) (e : If b ≡ statement-record s) where
+    right-if-made : statement-right d K S gs s ≡ is-some (made K S gs (parts-of d K S gs) s (If b))
+    right-if-made = right-made (If b) e (told s (If b) e .0)
+
     -- an if whose zero byte is not
     pub right-not-zero : (byte s 1 ≡ 0 → ⊥) → statement-right d K S gs s ≡ false
-    right-not-zero z = right-made ∙ rw (k, ne-eqb (byte s 1) 0 z)
+    right-not-zero z = right-if-made ∙ rw (ne-eqb (byte s 1) 0 z)
 
     -- else it asks its guard and its two parts
     if-asks : byte s 1 ≡ 0
         → statement-right d K S gs s ≡ (is-read (guard-from gs (b .guard)) && (is-some (parts-of d K S gs (whole (then-part b s))) && is-some (parts-of d K S gs (whole (else-part b s)))))
-    if-asks z = right-made ∙ rw (k, z) (all-there (guard-from gs (b .guard)) (parts-of d K S gs (whole (then-part b s))) (parts-of d K S gs (whole (else-part b s))) branch)
+    if-asks z = right-if-made ∙ rw z (all-there (guard-from gs (b .guard)) (parts-of d K S gs (whole (then-part b s))) (parts-of d K S gs (whole (else-part b s))) branch)
 
     -- which are none at depth 0
     pub right-too-deep : byte s 1 ≡ 0 → d ≡ 0 → statement-right d K S gs s ≡ false

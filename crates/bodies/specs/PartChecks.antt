@@ -1,4 +1,4 @@
--- What the judge asks of a list of statement records, and of one statement's record with its parts behind it; what a list that it took reads as.
+-- What the judge asks of a list of statement records, and of one statement's record with its parts behind it; and what such a list reads as.
 -- Assumes nothing.
 use Prim.Native.Nat.{ℕ, zero, suc, _/_, _-_}
 use mathlib.Core.Path.{_≡_}
@@ -24,7 +24,7 @@ parts-of (suc d) K S gs rs = part-at d K S gs rs
 unfoldable pub statement-right : ℕ → ℕ → ℕ → List ℕ → List ℕ → Bool
 statement-right d K S gs s = is-some (statement-from K S gs (parts-of d K S gs) (take 8 s) (records (length s / 8 - 1) (drop 8 s)))
 
--- it reads as this part, with ifs so deep, for so many child classes and own states
+-- a list reads as the part p, at some depth, for some numbers of child classes and own states
 pub record Reads (gs part : List ℕ) (p : Part) : Type 0 where
   pub depth : ℕ
   pub classes : ℕ

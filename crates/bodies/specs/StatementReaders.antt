@@ -25,11 +25,11 @@ unfoldable pub statement-record : List ℕ → StatementRecord
 statement-record part = choose (ltb (length part) 8) (λ _. Unknown) (λ _. getD (by-kind part) (byte part 0) Unknown)
 
 -- how many records belong to a statement beside its own: an if's two parts
-abbrev pub parts-length : StatementRecord → ℕ
-parts-length (Do m p) = 0
-parts-length (MoveTo t) = 0
-parts-length (If b) = b .thens + b .elses
-parts-length Unknown = 0
+abbrev pub records-beside : StatementRecord → ℕ
+records-beside (Do m p) = 0
+records-beside (MoveTo t) = 0
+records-beside (If b) = b .thens + b .elses
+records-beside Unknown = 0
 
 -- the then-part of the if at the front of a list follows at once, the else-part after it
 abbrev pub then-part : Branch → List ℕ → List ℕ
@@ -40,4 +40,4 @@ else-part b part = records-from (1 + b .thens) (b .elses) part
 
 -- what stands behind the statement at the front of a list, its parts with it
 abbrev pub behind-statement : StatementRecord → List ℕ → List ℕ
-behind-statement r part = drop ((1 + parts-length r) * 8) part
+behind-statement r part = drop ((1 + records-beside r) * 8) part

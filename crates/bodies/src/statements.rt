@@ -16,7 +16,7 @@ ghost use Prim.Native.Nat.{_*_, _<_, _≤_};
 ghost use lib.ListN.{length, take, drop};
 ghost use Rattle.bodies.specs.Bytes.{u16, records-from};
 ghost use Rattle.bodies.specs.StatementRecords.{do-right, move-right};
-ghost use Rattle.bodies.specs.StatementReaders.{statement-record, parts-length, then-part, else-part, behind-statement};
+ghost use Rattle.bodies.specs.StatementReaders.{statement-record, records-beside, then-part, else-part, behind-statement};
 ghost use Rattle.bodies.specs.PartChecks.{part-right, statement-right};
 ghost use Rattle.bodies.specs.Clauses.{statement-bytes};
 
@@ -64,8 +64,9 @@ pub fn statement_record(part: &[u8]) -> StatementRecord
 }
 
 // How many records belong to a statement beside its own: an if's two parts.
-fn parts_length(front: StatementRecord) -> usize
-    ensures { λ n. ⌜ (n ≡ parts-length front) × (n < 131072) ⌝ }
+fn records_beside(front: StatementRecord) -> usize
+    ensures count { λ n. ⌜ n ≡ records-beside front ⌝ }
+    ensures small { λ n. ⌜ n < 131072 ⌝ }
 {
     match front {
         StatementRecord::If(branch) => (branch.thens as usize) + (branch.elses as usize),
@@ -123,7 +124,7 @@ pub fn else_part(branch: Branch, part: &[u8]) -> &[u8]
 pub fn behind_statement(front: StatementRecord, part: &[u8]) -> &[u8]
     ensures { λ r. ⌜ now r ≡ behind-statement front (now (part .entry)) ⌝ }
 {
-    behind_records(part, 1 + parts_length(front))
+    behind_records(part, 1 + records_beside(front))
 }
 
 // do: a command 0 to 63, a pattern, the rest 0.
@@ -155,7 +156,7 @@ fn part_ok(classes: usize, states: usize, g: &[u8], part: &[u8], depth: usize) -
         return true;
     }
     let front = statement_record(part);
-    if part.len() / 8 <= parts_length(front) {
+    if part.len() / 8 <= records_beside(front) {
         return false;
     }
     if !statement_ok(classes, states, g, part, depth) {

@@ -23,7 +23,7 @@ use Rattle.bodies.proofs.statements.behind_statement.Reads as behind-st
 use Rattle.bodies.proofs.statements.do_ok.Reads as do-ok-reads
 use Rattle.bodies.proofs.statements.else_part.Reads as else-part-reads
 use Rattle.bodies.proofs.statements.move_ok.Reads as move-ok-reads
-use Rattle.bodies.proofs.statements.parts_length.Reads as parts-length-reads
+use Rattle.bodies.proofs.statements.records_beside.Reads as records-beside-reads
 use Rattle.bodies.proofs.statements.statement_record.Reads as statement-record-reads
 use Rattle.bodies.proofs.statements.then_part.Reads as then-part-reads
 use Rattle.bodies.proofs.words.byte_at.Reads as byte-at-reads
@@ -52,7 +52,7 @@ module _ (t : ℕ) where
   statement-ok-below = and 2 statement-ok-kinds.ps (falls 2 statement-ok-kinds.ps _<_ μ-statement-ok t) statement-ok.Pre
 
   abbrev part-ok-uses : part-ok-lts.Claims
-  part-ok-uses = (statement-record-reads.Asked, statement-record-reads.Learnt, parts-length-reads.Asked, parts-length-reads.Learnt, statement-ok-below, statement-ok.Post, behind-statement-reads.Asked, behind-statement-reads.Learnt, part-ok-below, part-ok.Post)
+  part-ok-uses = (statement-record-reads.Asked, statement-record-reads.Learnt, records-beside-reads.Asked, records-beside-reads.Learnt, statement-ok-below, statement-ok.Post, behind-statement-reads.Asked, behind-statement-reads.Learnt, part-ok-below, part-ok.Post)
 
   part-ok-returns : part-ok-lts.Need-returns part-ok-uses part-ok-at part-ok.Post
   part-ok-returns c = sym (right-empty _ _ _ _ _ (c .if1 .taken))
@@ -85,14 +85,12 @@ module _ (t : ℕ) where
   statement-ok-returns : statement-ok-lts.Need-returns statement-ok-uses statement-ok-at statement-ok.Post
   statement-ok-returns c =
       let k = c .before .before .before in
-      let r = k .before .before in
-      sym (right-not-zero _ _ _ _ _ _ (r .statement-record .ensures) (r .before .before .before .pre .1) _ (k .front .given .1) (λ z. c .if1 .taken (omega arith)))
+      sym (right-not-zero _ _ _ _ _ _ (sym (k .front .given .1) ∙ k .before .before .statement-record .ensures) (λ z. c .if1 .taken (omega arith)))
 
   statement-ok-returns-2 : statement-ok-lts.Need-returns-2 statement-ok-uses statement-ok-at statement-ok.Post
   statement-ok-returns-2 c =
       let k = c .before .before .before .before in
-      let r = k .before .before in
-      sym (right-too-deep _ _ _ _ _ _ (r .statement-record .ensures) (r .before .before .before .pre .1) _ (k .front .given .1) (omega arith) (c .if2 .taken))
+      sym (right-too-deep _ _ _ _ _ _ (sym (k .front .given .1) ∙ k .before .before .statement-record .ensures) (omega arith) (c .if2 .taken))
 
   statement-ok-part-ok-requires : statement-ok-lts.Need-part-ok-requires statement-ok-uses statement-ok-at statement-ok.Post
   statement-ok-part-ok-requires c κs =
@@ -108,13 +106,11 @@ module _ (t : ℕ) where
 
   statement-ok-returns-3 : statement-ok-lts.Need-returns-3 statement-ok-uses statement-ok-at statement-ok.Post
   statement-ok-returns-3 c =
-      let r = c .before .before .before in
-      c .do-ok .ensures ∙ sym (right-do _ _ _ _ _ _ (r .statement-record .ensures) (r .before .before .before .pre .1) _ _ (c .before .enum-told .given .1))
+      c .do-ok .ensures ∙ sym (right-do _ _ _ _ _ _ _ (sym (c .before .enum-told .given .1) ∙ c .before .before .before .statement-record .ensures))
 
   statement-ok-returns-4 : statement-ok-lts.Need-returns-4 statement-ok-uses statement-ok-at statement-ok.Post
   statement-ok-returns-4 c =
-      let r = c .before .before .before in
-      c .move-ok .ensures ∙ sym (right-move _ _ _ _ _ _ (r .statement-record .ensures) (r .before .before .before .pre .1) _ (c .before .enum-told2 .given .1))
+      c .move-ok .ensures ∙ sym (right-move _ _ _ _ _ _ (sym (c .before .enum-told2 .given .1) ∙ c .before .before .before .statement-record .ensures))
 
   statement-ok-returns-5 : statement-ok-lts.Need-returns-5 statement-ok-uses statement-ok-at statement-ok.Post
   statement-ok-returns-5 c =
@@ -122,13 +118,12 @@ module _ (t : ℕ) where
       let x = y .before .before in
       let d = x .before .before in
       let k = d .before .before .before .before in
-      let r = k .before .before in
-      right-if _ _ _ _ _ _ (r .statement-record .ensures) (r .before .before .before .pre .1) _ (k .front .given .1) _ _ _ _ _ (omega arith) (d .if2 .left) (x .before .then-part .ensures) (y .before .else-part .ensures) (c .guard-ok .ensures) (x .part-ok .ensures) (y .part-ok2 .ensures)
+      right-if _ _ _ _ _ _ (sym (k .front .given .1) ∙ k .before .before .statement-record .ensures) _ _ _ _ _ (omega arith) (d .if2 .left) (x .before .then-part .ensures) (y .before .else-part .ensures) (c .guard-ok .ensures) (x .part-ok .ensures) (y .part-ok2 .ensures)
 
   statement-ok-returns-6 : statement-ok-lts.Need-returns-6 statement-ok-uses statement-ok-at statement-ok.Post
   statement-ok-returns-6 c =
       let r = c .before .before in
-      sym (right-unknown _ _ _ _ _ _ (r .statement-record .ensures) (r .before .before .before .pre .1) (c .enum-told3 .given .1))
+      sym (right-unknown _ _ _ _ _ (sym (c .enum-told3 .given .1) ∙ r .statement-record .ensures) (r .before .before .before .pre .1))
 
 pub +part-ok+statement-ok-spec : {M : Type 1} → statement M
 +part-ok+statement-ok-spec =

@@ -8,7 +8,7 @@ use Rattle.bodies.proofs.statements.behind_statement.Statement.{stateme
 use Rattle.bodies.proofs.statements.behind_statement.Tie as tie
 
 returns : tie.Need-returns
-returns c = c .behind-records .ensures ∙ ap (λ (n : ℕ). drop ((1 + n) * 8) (c .before .before .before .args .part .now)) (c .before .parts-length .ensures .0)
+returns c = c .behind-records .ensures ∙ ap (λ (n : ℕ). drop ((1 + n) * 8) (c .before .before .before .args .part .now)) (c .before .records-beside .ensures .0)
 
 pub behind-statement-spec : {M : Type 1} → statement M
 behind-statement-spec = tie.close (tie.spec (λ c κs. search needs) (λ c. search needs) (λ c κs. search needs) returns)
