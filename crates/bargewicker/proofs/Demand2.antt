@@ -32,6 +32,7 @@ use Rattle.model.proofs.AnswerLaws.{probed-told, phase-told}
 use Rattle.sheet.specs.Reading.{class-of}
 use Rattle.sheet.proofs.Sound.{sound}
 use Rattle.children.specs.ChildList.{children-of, sent-bytes}
+use Rattle.children.proofs.ChildListLaws.{three-each}
 use Rattle.bargewicker.specs.Questions.{Answer, probed, phased, probe-in, phase-from, command-in, placed, reply}
 use Rattle.bargewicker.specs.Numbers.{values}
 use Rattle.bargewicker.specs.Placing.{placed-refusal}
@@ -39,7 +40,6 @@ use Rattle.bargewicker.specs.Promises.{Promised}
 use Rattle.bargewicker.specs.Demands.{Asked, no-clause, clause, First, NoneTrue, ProbedRight, ProbeRight, Settles, PhasedRight, PhaseRight, CommandRight}
 use Rattle.bargewicker.proofs.QuestionLaws.{is-placed}
 use Rattle.bargewicker.proofs.CommandLaws.{answer-ignored, answer-handled, answer-short}
-use Rattle.bargewicker.proofs.TableLaws.{sent-length}
 use Rattle.bargewicker.proofs.Unique.{unique}
 
 -- an own state's number as the code has it
@@ -175,10 +175,10 @@ module _ (b l : List ℕ) (q : ℕ) (a : Asked b l q) where
 
             by : (length out < 3 * length sent) ⊎ (3 * length sent ≤ length out) → CommandRight c ks q m out final r
             by (inl short) =
-                let n = sent-length sent in
+                let n = three-each sent in
                 told-command (C.Refused Room) out (answer-short b l q m out fits small sent to runs (let w : length out < length (sent-bytes sent) = omega arith in w) out refl)
                 λ k. (refl, p, e, short, k)
             by (inr room) =
                 told-command (C.Given (Handled (own to) (3 * length sent))) (written (sent-bytes sent) out)
-                (answer-handled b l q m out fits small sent to runs (own to) refl (3 * length sent) (sym (sent-length sent)) room (written (sent-bytes sent) out) (ap (λ (n : ℕ). sent-bytes sent ++ drop n out) (sent-length sent)))
+                (answer-handled b l q m out fits small sent to runs (own to) refl (3 * length sent) (sym (three-each sent)) room (written (sent-bytes sent) out) (ap (λ (n : ℕ). sent-bytes sent ++ drop n out) (three-each sent)))
                 λ k. (p, e, record { state = refl; number = refl; room = room; buffer = k })

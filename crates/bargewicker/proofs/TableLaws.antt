@@ -11,13 +11,14 @@ use borrow.Author.Tests.{ne-eqb, ltb-true}
 use Rattle.model.specs.Words.{choose, every}
 use Rattle.model.specs.Tree.{Class}
 use Rattle.model.specs.Node.{own-states}
-use Rattle.model.specs.Commands.{Sent, Handling, handled, ignored, command}
+use Rattle.model.specs.Commands.{Handling, handled, ignored, command}
 use Rattle.model.proofs.Words.{and-left, and-right}
 use Rattle.model.specs.Replies.{Reply, refuse, give, check, told-as}
 use Rattle.sheet.specs.Rules.{refusal, refusal-in}
 use Rattle.sheet.specs.Asked.{on-sheet}
 use Rattle.sheet.specs.Reading.{class-of}
-use Rattle.children.specs.ChildList.{children-of, list-right, sent-bytes}
+use Rattle.children.specs.ChildList.{children-of, list-right}
+use Rattle.children.proofs.ChildListLaws.{three-each}
 use Rattle.configurations.specs.Configurations.{name-count}
 use Rattle.configurations.specs.LoopAnswer.{Loops, loop-answer}
 use Rattle.loops.specs.LoopQuestion.{present-right, bytes-of-loops, reply-loop}
@@ -83,15 +84,10 @@ placed-failed b l q rest more h = asked-failed b _ _ (go (list-right (class-of b
     go true false = refl
     go false u = refl
 
--- three bytes for each command sent
-pub sent-length : (sent : List Sent) → length (sent-bytes sent) ≡ 3 * length sent
-unfolding sent-bytes
-sent-length [] = refl
-sent-length (s ∷ sent) = let e = sent-length sent in omega arith
-
+-- the room that a handling needs, three bytes for each command sent
 room : (h : Handling) → length (bytes-of-handling h) ≡ 3 * length (sent-by h)
 unfolding bytes-of-handling
-room (handled sent q) = sent-length sent
+room (handled sent q) = three-each sent
 room (ignored q) = refl
 
 command-failed : (c : Class) (l : List ℕ) (q m : ℕ) (out : List ℕ) → refused-number (reply-command c l q m out) ≡ first-failed (command-checks c l q m out)

@@ -17,6 +17,10 @@ u32 b at = byte b at + 256 * byte b (at + 1) + 65536 * byte b (at + 2) + 1677721
 unfoldable pub record-at : List ℕ → ℕ → List ℕ
 record-at b i = take 8 (drop (i * 8) b)
 
+-- the bytes of n records from record i on; fewer where the string ends before
+abbrev pub records-from : ℕ → ℕ → List ℕ → List ℕ
+records-from i n b = take (n * 8) (drop (i * 8) b)
+
 -- the first n records of 8 bytes
 unfoldable pub records : ℕ → List ℕ → List (List ℕ)
 records zero b = []

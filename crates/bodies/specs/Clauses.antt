@@ -6,7 +6,7 @@ use mathlib.Core.Option.{Option}
 use lib.ListN.{length, getD, take, drop}
 use Rattle.model.specs.Words.{total}
 use Rattle.model.specs.Tree.{Referrer, move-to, run, stay, Part}
-use Rattle.bodies.specs.Bytes.{byte, u16, u32, records}
+use Rattle.bodies.specs.Bytes.{byte, u16, u32, records, records-from}
 use Rattle.bodies.specs.StatementRecords.{part-at}
 
 -- how many records of 4 bytes a body has: child classes (K), states (S), when clauses (W), action clauses (A)
@@ -67,6 +67,10 @@ statement-count actions a = count-at actions 2 a
 
 abbrev pub first-statement : List ℕ → ℕ → ℕ
 first-statement actions a = count-sum actions 2 a
+
+-- its statements: their bytes, and their records
+abbrev pub statement-bytes : List ℕ → List ℕ → ℕ → List ℕ
+statement-bytes actions statements a = records-from (first-statement actions a) (statement-count actions a) statements
 
 unfoldable pub statements-of : List ℕ → List ℕ → ℕ → List (List ℕ)
 statements-of actions statements a = take (statement-count actions a) (drop (first-statement actions a) (records (in-eights statements) statements))

@@ -2,6 +2,7 @@ pub mod Bytes
 pub mod GuardRecords
 pub mod Ends
 pub mod StatementRecords
+pub mod StatementReaders
 pub mod PartChecks
 pub mod Clauses
 pub mod Patterns

@@ -1,5 +1,3 @@
 pub mod PackedLaws
 pub mod ReadBack
-pub mod SentCount
-pub mod AnswerBounds
 pub mod NothingLost

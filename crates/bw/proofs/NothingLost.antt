@@ -31,8 +31,8 @@ use Rattle.loops.specs.LoopQuestion.{present-right, bytes-of-loops, reply-loop}
 use Rattle.bargewicker.specs.Questions.{Answer, accepted, judge, probe-in, phase-from, command-in, loop-with, probed, phased, commanded, looped, placed, reply, reply-command, bytes-of-handling}
 use Rattle.bargewicker.specs.Numbers.{values, handling-values}
 use Rattle.bw.specs.Packed.{Field, word, unpacked, packed, kinds-of-probe, kinds-of-phase, kinds-of-command, kinds-of-loop, NothingLost}
-use Rattle.bw.proofs.SentCount.{children-most}
-use Rattle.bw.proofs.AnswerBounds.{state-left, few, found-small, do-small, reached-small, left-small, sent-small}
+use Rattle.children.proofs.ChildListLaws.{children-most}
+use Rattle.bargewicker.proofs.AnswerBounds.{state-left, few, found-small, do-small, reached-small, left-small, sent-small}
 use Rattle.bw.proofs.ReadBack.{back-judge, back-refused, back-nothing, back-clause, back-reached, back-do, back-command, back-free, back-loop}
 
 -- the numbers of a reply are read back from its word

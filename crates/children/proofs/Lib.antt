@@ -1,4 +1,5 @@
 pub mod Computing
+pub mod ChildListLaws
 pub mod CrewLaws
 pub mod ListLaws
 pub mod Unique

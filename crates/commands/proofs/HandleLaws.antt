@@ -1,14 +1,14 @@
 -- Laws about the handling of a command: the action clause that was found, and what its statements come to.
 -- Assumes nothing.
-use Prim.Native.Nat.{ℕ, _+_, _*_, _<_, _≤_}
+use Prim.Native.Nat.{ℕ, _+_, _*_, _-_, _<_, _≤_}
 use native.Mathlib.Omega.{arith}
 use mathlib.Core.Path.{_≡_, refl, sym, _∙_, ap}
 use mathlib.Core.Bool.{Bool, true, false}
-use mathlib.Core.List.{List, [], _∷_, _++_}
+use mathlib.Core.List.{List, [], _∷_, _++_, append-nil}
 use mathlib.Core.Logic.{_⊎_, inl, inr}
 use mathlib.Core.Option.{Option, none, some}
 use lib.Dec.{eqb}
-use lib.ListN.{length, drop, length-take, length-drop, List·getD-eq-default}
+use lib.ListN.{length, take, drop, length-take, drop-of-length-le, List·getD-eq-default}
 use lib.Seq.{sets, sets-eq}
 use borrow.Author.Tests.{eqb-true}
 use Rattle.model.specs.Words.{maybe, is-some, listed}
@@ -17,20 +17,22 @@ use Rattle.model.specs.Node.{state-of}
 use Rattle.model.specs.Commands as Tree
 use Rattle.model.specs.declared.OwnState.{OwnState}
 use Rattle.model.proofs.Words.{clash, and-right, lt-or-le, each-elim, least-some, least-none, least-told}
-use Rattle.bodies.specs.Bytes.{records}
+use Rattle.model.proofs.CommandLaws.{part-size}
 use Rattle.sheet.specs.Contents.{body, bodies}
-use Rattle.bodies.specs.Clauses.{in-fours, in-eights, count-at, count-sum, first-action, action-count, action-command, statement-count, first-statement, statements-of, body-of}
+use Rattle.bodies.specs.Clauses.{in-fours, count-at, count-sum, first-action, action-count, action-command, statement-bytes, body-of}
+use Rattle.bodies.specs.PartChecks.{Reads}
 use Rattle.children.specs.ChildList.{children-of, sent-bytes}
 use Rattle.bodies.specs.BodyRules.{counts-right, statements-right}
 use Rattle.sheet.specs.Reading.{action-in, state-in, class-of}
-use Rattle.bodies.proofs.Bytes.{length-records}
 use Rattle.bodies.proofs.CheckLaws.{sum-next}
+use Rattle.bodies.proofs.PartSizes.{body-sized}
+use Rattle.bodies.proofs.StatementLaws.{sum-inside, statements-whole}
+use Rattle.children.proofs.ChildListLaws.{half, bytes-most}
 use Rattle.sheet.proofs.Contents.{counted}
-use Rattle.sheet.proofs.JudgeLaws.{sum-right}
 use Rattle.sheet.proofs.Reading.{state-of-in, state-of-past}
 use Rattle.sheet.proofs.Rules.{Right}
-use Rattle.bodies.proofs.StatementLaws.{sum-inside}
-use Rattle.commands.specs.Commands.{moved-as, Does, RunsPart, first-action-for, HandlesAs}
+use Rattle.children.specs.NameSets.{Crewed}
+use Rattle.commands.specs.Commands.{moved-as, Does, Room, first-action-for, HandlesAs}
 use Rattle.commands.specs.declared.Moved.{Moved}
 use Rattle.commands.specs.declared.Ran.{Ran}
 use Rattle.commands.specs.declared.Handling.the-variants.{Handled, Short}
@@ -48,13 +50,12 @@ is-there {ℓ} : {A : Type ℓ} (o : Option A) → is-some o ≡ true → (a : A
 is-there none e = absurd (clash (cc))
 is-there (some a) e = (a, refl)
 
--- action clause a is the one for command m in state q: its statements, and what they come to
+-- action clause a is the one for command m in state q: the part that its statements read as, and that it is few statements
 pub record Chosen (b : List ℕ) (q m a : ℕ) : Type 0 where
   pub few : a < 1024
-  pub ends : count-sum (body b 4) 2 (a + 1) ≤ in-eights (body b 5)
-  pub short : in-eights (body b 5) ≤ 1024
   pub part : Part
-  pub reads : body-of (in-fours (body b 0)) (in-fours (body b 1)) (body b 3) (body b 4) (body b 5) a ≡ some part
+  pub small : part-size part ≤ 1024
+  pub reads : Reads (body b 3) (statement-bytes (body b 4) (body b 5) a) part
   pub handled : (ks : List Child) → Tree.command (class-of b) ks q m ≡ Tree.handled-by q (Tree.run-part part ks)
 
 module _ (b : List ℕ) (right : Right b) (q m : ℕ) where
@@ -107,7 +108,7 @@ module _ (b : List ℕ) (right : Right b) (q m : ℕ) where
       rw (actions-listed, clause-found (first-action (body b 1) q) (action-count (body b 1) q) (action-in (bodies b)) m hit a l e (rw e t) (λ j c k x. rw x (h j k)), r)
 
   pub chosen-told : (first n hit : ℕ) → first ≡ first-action (body b 1) q → n ≡ action-count (body b 1) q → hit ≡ first-action-for b q m → (hit ≡ n → ⊥) → Chosen b q m (first + hit)
-  unfolding first-action-for bodies statements-right
+  unfolding first-action-for bodies statements-right body-of
   chosen-told first n hit ef en eh ne =
       let a = first + hit in
       let w = least-told (action-count (body b 1) q) own hit eh .1 (λ z. ne (z ∙ sym en)) in
@@ -118,29 +119,28 @@ module _ (b : List ℕ) (right : Right b) (q m : ℕ) where
       let (p, r) = is-there (body-at a) (each-elim (in-fours (body b 4)) (λ a. is-some (body-at a)) (right .bodies .statements) a inside) in
       record {
         few = omega (arith, counted b (right .contents) .actions-most);
-        ends = sum-inside (body b 4) 2 a (in-fours (body b 4)) (in-eights (body b 5)) inside (sum-right (body b 1) (body b 4) (in-eights (body b 5)) (right .bodies .actions));
-        short = counted b (right .contents) .statements-most;
         part = p;
-        reads = r;
+        small = omega (arith, counted b (right .contents) .statements-most, body-sized (in-fours (body b 0)) (in-fours (body b 1)) (body b 3) (body b 4) (body b 5) a p r);
+        reads = record { depth = 8; classes = in-fours (body b 0); states = in-fours (body b 1); reads = rw (statements-whole (body b 4) (body b 5) a) r };
         handled = part-told hit a p l t h e r;
       }
 
-module _ (b : List ℕ) (q m a : ℕ) (C : Chosen b q m a) (guards actions statements p : List ℕ) (eg : guards ≡ body b 3) (ea : actions ≡ body b 4) (es : statements ≡ body b 5) where
-  -- what `statements_of` asks
-  pub statements-asked : (a < 1024) × (count-sum actions 2 (a + 1) ≤ in-eights statements)
-  statements-asked = rw (ea, es) (C .few, C .ends)
+-- its statements as they were cut out of the bodies
+module _ (b : List ℕ) (q m a : ℕ) (C : Chosen b q m a) (guards actions statements p : List ℕ) (eg : guards ≡ body b 3) (ea : actions ≡ body b 4) (es : statements ≡ body b 5) (ep : p ≡ statement-bytes actions statements a) where
+  -- read as its part
+  pub statements-read : Reads guards p (C .part)
+  statements-read = rw (ep, eg, ea, es) (C .reads)
 
-  module _ (e : records (in-eights p) p ≡ statements-of actions statements a) where
-    pub statements-short : length p ≤ 8200
-    unfolding statements-of
-    statements-short =
-        let l : in-eights statements ≤ 1024 = rw es (C .short) in
-        let rs = records (in-eights statements) statements in
-        omega (arith, ap length e, length-records (in-eights p) p, length-take (statement-count actions a) (drop (first-statement actions a) rs), length-drop (first-statement actions a) rs, length-records (in-eights statements) statements)
-
-    pub statements-done : (list before after : List ℕ) (r : Ran) → RunsPart guards list p before after 0 r → Does (Tree.run-part (C .part) (children-of list)) before after 0 r
-    unfolding body-of
-    statements-done list before after r ran = ran .runs 8 (in-fours (body b 0)) (in-fours (body b 1)) (C .part) (rw (e, eg, ea, es) (C .reads))
+  -- and what they send to a list of at most 4,096 children can be counted
+  pub statements-room : (sets list : List ℕ) → Crewed sets (children-of list) → length list ≤ 8192 → Room sets guards list p 0
+  statements-room sets list c l =
+      record {
+        crewed = c;
+        short = l;
+        tree = C .part;
+        reads = statements-read;
+        counted = omega (arith, bytes-most (C .part) (children-of list) (C .small) (omega (arith, half list)));
+      }
 
 -- no bytes before the others
 pub none-before : (e l : List ℕ) → length e ≡ 0 → e ++ l ≡ l
@@ -151,9 +151,11 @@ none-before (x ∷ e) l h = absurd (omega arith)
 pub moved-told : (q : ℕ) {x y : Moved} → x ≡ y → maybe (moved-as x) (λ _. q) (λ t. t) ≡ maybe (moved-as y) (λ _. q) (λ t. t)
 moved-told q e = ap (λ (z : Moved). maybe (moved-as z) (λ _. q) (λ t. t)) e
 
--- bytes that there is room for, from the first place on
-pub sets-front : (l bs : List ℕ) (n : ℕ) → n ≡ length bs → n ≤ length l → sets l 0 bs ≡ bs ++ drop n l
-sets-front l bs n e h = let z : 0 + length bs ≡ n = omega arith in sets-eq bs l 0 (omega arith) ∙ ap (λ (k : ℕ). bs ++ drop k l) z
+-- bytes in as much room as they take
+pub sets-all : (l bs : List ℕ) → length l ≡ length bs → sets l 0 bs ≡ bs
+sets-all l bs e =
+    let h : length l ≤ 0 + length bs = omega arith in
+    sets-eq bs l 0 (omega arith) ∙ ap (λ (x : List ℕ). bs ++ x) (drop-of-length-le l h) ∙ append-nil bs
 
 -- what handling comes to: the count run, and with room the run that writes
 module _ (b : List ℕ) (q m a : ℕ) (C : Chosen b q m a) (list e e′ out out′ : List ℕ) (r : Ran) (D : Does (Tree.run-part (C .part) (children-of list)) e e′ 0 r) (same : out′ ≡ out) where
@@ -166,14 +168,15 @@ module _ (b : List ℕ) (q m a : ℕ) (C : Chosen b q m a) (list e e′ out out�
   pub short-told : length out′ < r .at → HandlesAs answer q out out′ Short
   short-told l =
       let ran = Tree.run-part (C .part) (children-of list) in
-      (ran .sent, maybe (ran .moved) (λ _. q) (λ t. t), C .handled (children-of list), omega (arith, D .place, ap length same), same)
+      (ran .sent, maybe (ran .moved) (λ _. q) (λ t. t), C .handled (children-of list), omega (arith, D .writes .place, ap length same), same)
 
-  pub handled-told : (after : List ℕ) (w : Ran) (s : OwnState) → r .at ≤ length out′ → Does (Tree.run-part (C .part) (children-of list)) out′ after 0 w
-      → maybe (moved-as (w .moved)) (λ _. q) (λ t. t) ≡ s .0 → HandlesAs answer q out after (Handled s (w .at))
-  handled-told after w s l E em =
+  pub handled-told : (last : List ℕ) (w : Ran) (s : OwnState) → r .at ≤ length out′ → Does (Tree.run-part (C .part) (children-of list)) (take (r .at - 0) out′) last 0 w
+      → maybe (moved-as (w .moved)) (λ _. q) (λ t. t) ≡ s .0 → HandlesAs answer q out (last ++ drop (r .at - 0) out′) (Handled s (w .at))
+  handled-told last w s l E em =
       let ran = Tree.run-part (C .part) (children-of list) in
-      let n : w .at ≡ length bytes = omega (arith, E .place) in
-      let f : w .at ≤ length out = omega (arith, D .place, ap length same) in
+      let n : w .at ≡ length bytes = omega (arith, E .writes .place) in
+      let f : r .at - 0 ≡ w .at = omega (arith, D .writes .place) in
+      let k : w .at ≤ length out = omega (arith, ap length same) in
       let h : answer ≡ Tree.handled (ran .sent) (s .0) = C .handled (children-of list) ∙ ap (Tree.handled (ran .sent)) (ap (λ (o : Option ℕ). maybe o (λ _. q) (λ t. t)) (sym (E .moved)) ∙ em) in
-      let c : after ≡ bytes ++ drop (w .at) out = E .buffer ∙ ap (λ (l : List ℕ). sets l 0 bytes) same ∙ sets-front out bytes (w .at) n f in
-      (ran .sent, h, n, f, c)
+      let c : last ≡ bytes = E .writes .buffer ∙ sets-all (take (r .at - 0) out′) bytes (omega (arith, length-take (r .at - 0) out′)) in
+      (ran .sent, h, n, k, rw (c, f, same))

@@ -1,175 +1,192 @@
--- Laws about running statements: what is done one statement after the other, and a law for each way out of the code that runs them.
+-- Laws about running statements: what is done one statement after the other, what the rest of a list is run with, and a law for each way
+-- out of the code that runs them.
 -- Assumes nothing.
-use Prim.Native.Nat.{ℕ, _+_, _*_, _-_, _<_, _≤_}
+use Prim.Native.Nat.{ℕ, _+_, _<_}
 use native.Mathlib.Omega.{arith}
 use mathlib.Core.Path.{_≡_, refl, sym, _∙_, ap, subst}
 use mathlib.Core.Bool.{Bool, true, false}
 use mathlib.Core.List.{List, _++_}
 use mathlib.Core.Option.{Option, none, some}
-use lib.ListN.{length, take, drop, length-take, length-drop, length-append}
-use lib.Seq.{sets, length-sets, getD-take}
+use lib.ListN.{length}
+use lib.Seq.{sets}
 use Rattle.model.specs.Words.{maybe}
-use Rattle.model.specs.Tree.{Child, Pattern, Guard, Statement, send, branch, Part, end}
+use Rattle.model.specs.Tree.{Child, Guard, Statement, send, branch, Part, _then_}
 use Rattle.model.specs.Guards.{holds}
 use Rattle.model.specs.Commands as Tree
-use Rattle.bodies.specs.Bytes.{byte, u16, records}
-use Rattle.bodies.specs.Clauses.{in-eights}
+use Rattle.model.specs.declared.OwnState.{OwnState}
+use Rattle.bodies.specs.GuardRecords.{got, guard-from}
+use Rattle.bodies.specs.Patterns.{pattern-as}
+use Rattle.bodies.specs.PartChecks.{Reads}
+use Rattle.bodies.specs.StatementReaders.{statement-record, then-part, else-part, behind-statement}
+use Rattle.bodies.specs.declared.kinds.Pattern.{Pattern}
+use Rattle.bodies.specs.declared.statements.Branch.{Branch}
+use Rattle.bodies.specs.declared.statements.StatementRecord.{StatementRecord}
+use Rattle.bodies.specs.declared.statements.StatementRecord.the-variants.{Do, MoveTo, If, Unknown}
+use Rattle.bodies.proofs.ReadLaws.{Begins, BeginsIf, read-end, read-do, read-move, read-if}
 use Rattle.children.specs.ChildList.{children-of, sent-bytes}
-use Rattle.bodies.specs.GuardRecords.{got, guard-from, pattern-of}
-use Rattle.bodies.specs.StatementRecords.{part-length}
-use Rattle.bodies.specs.PartChecks.{parts-of}
-use Rattle.bodies.proofs.PartLaws.{front, length-plain}
 use Rattle.node.specs.Values.{truth-of}
 use Rattle.children.specs.NameSets.{Crewed}
-use Rattle.commands.specs.Commands.{SendsAll, Does, RunsPart, RunsIf}
+use Rattle.node.proofs.Agree.{agree}
+use Rattle.commands.specs.Commands.{Writes, Counted, Does, Room, RunsPart, RunsIf}
 use Rattle.commands.specs.declared.Moved.the-variants.{Not, To}
 use Rattle.commands.specs.declared.Ran.{Ran}
-use Rattle.model.specs.declared.OwnState.{OwnState}
-use Rattle.node.proofs.Agree.{agree}
-use Rattle.commands.proofs.SendLaws.{sets-append, bytes-append}
-use Rattle.commands.proofs.ReadLaws.{reads-send, reads-go, reads-if, reads-none, reader, behind, reads-as, reads-end, reads-first, reads-inside, first-reads, rest-reads, then-bytes, else-bytes, if-got}
+use Rattle.commands.proofs.SendLaws.{sets-append, bytes-append, bytes-sum}
 
--- what running did, one after the other
-module _ (a b : Tree.Ran) (before after : List ℕ) (at : ℕ) (r : Ran) where
-  does-on : (mid : List ℕ) (next : ℕ) → a .moved ≡ none → mid ≡ sets before at (sent-bytes (a .sent)) → next ≡ at + length (sent-bytes (a .sent)) → Does b mid after next r
-      → Does (Tree.and-then a (λ _. b)) before after at r
-  does-on mid next h e f d =
-      rw h
-      (record {
-        buffer = d .buffer ∙ rw (e, f, bytes-append (a .sent) (b .sent), sets-append before at (sent-bytes (a .sent)) (sent-bytes (b .sent)));
-        place = rw (bytes-append (a .sent) (b .sent)) (omega (arith, length-append (sent-bytes (a .sent)) (sent-bytes (b .sent)), d .place));
-        moved = d .moved;
-      })
+-- a run, and the run after it, which sends too unless the first moved
+module _ (a b : Tree.Ran) where
+  -- all can be counted, so the first can
+  counted-first : (at : ℕ) → Counted (Tree.and-then a (λ _. b) .sent) at → Counted (a .sent) at
+  counted-first at c = go (a .moved) c
+    where
+      go : (o : Option ℕ) → Counted (maybe o (λ _. record { sent = a .sent ++ b .sent; moved = b .moved }) (λ _. a) .sent) at → Counted (a .sent) at
+      go none c = omega (arith, bytes-sum (a .sent) (b .sent))
+      go (some t) c = c
 
-  does-stop : (s : ℕ) → a .moved ≡ some s → Does a before after at r → Does (Tree.and-then a (λ _. b)) before after at r
-  does-stop s h d =
+  does-stop : (t : ℕ) → a .moved ≡ some t → {before after : List ℕ} {at : ℕ} {r : Ran} → Does a before after at r → Does (Tree.and-then a (λ _. b)) before after at r
+  does-stop t h {before} {after} {at} {r} d =
       subst (λ (t : Tree.Ran). Does t before after at r) (sym (ap (λ (o : Option ℕ). maybe o (λ _. record { sent = a .sent ++ b .sent; moved = b .moved }) (λ _. a)) h)) d
 
--- an if does what the part does that its guard chooses
-module _ (t : Statement) (y : Guard) (a b : Part) (ks : List Child) {before after : List ℕ} {at : ℕ} {r : Ran} (e : t ≡ branch y a b) where
-  does-then : holds y ks ≡ true → Does (Tree.run-part a ks) before after at r → Does (Tree.run-one t ks) before after at r
-  unfolding Tree.run-one
-  does-then h d = rw (e, h) d
+  module _ (h : a .moved ≡ none) where
+    counted-on : (at next : ℕ) → next ≡ at + length (sent-bytes (a .sent)) → Counted (Tree.and-then a (λ _. b) .sent) at → Counted (b .sent) next
+    counted-on at next e c =
+        let w : at + length (sent-bytes (a .sent ++ b .sent)) < 1000000000000 = rw h at c in
+        omega (arith, bytes-sum (a .sent) (b .sent))
 
-  does-else : holds y ks ≡ false → Does (Tree.run-part b ks) before after at r → Does (Tree.run-one t ks) before after at r
-  unfolding Tree.run-one
-  does-else h d = rw (e, h) d
+    does-on : {before mid after : List ℕ} {at next : ℕ} {r : Ran} → Writes (a .sent) before mid at next → Does b mid after next r → Does (Tree.and-then a (λ _. b)) before after at r
+    does-on {before} {at = at} w d =
+        rw h
+        (record {
+          writes =
+              record {
+                buffer = d .writes .buffer ∙ rw (w .buffer, w .place, bytes-append (a .sent) (b .sent), sets-append before at (sent-bytes (a .sent)) (sent-bytes (b .sent)));
+                place = omega (arith, bytes-sum (a .sent) (b .sent), d .writes .place, w .place);
+              };
+          moved = d .moved;
+        })
 
--- the ways out of `run_list`
-module _ (g list part before : List ℕ) (at : ℕ) where
-  run-nothing : ((d K S : ℕ) (p : Part) → reads-as d K S g part p → p ≡ end) → RunsPart g list part before before at (record { at = at; moved = Not })
-  unfolding Tree.run-part sent-bytes
-  run-nothing h =
-      record {
-        runs = λ d K S p e. rw (h d K S p e) (record { buffer = refl; place = omega arith; moved = refl });
-        most = omega arith;
-        kept = refl;
-      }
+-- what an if's guard chooses of two
+abbrev pub either {ℓ} : {A : Type ℓ} → Bool → A → A → A
+either true a b = a
+either false a b = b
 
-  pub run-empty : length part < 8 → RunsPart g list part before before at (record { at = at; moved = Not })
-  run-empty l = run-nothing (λ d K S p e. reads-end d K S g part p l e)
+-- in the bytes as in the tree
+either-reads : (x : Bool) (g p q : List ℕ) (a b : Part) → Reads g p a → Reads g q b → Reads g (either x p q) (either x a b)
+either-reads true g p q a b h k = h
+either-reads false g p q a b h k = k
 
-  module _ (l : 8 ≤ length part) where
-    pub run-cut : length part < part-length part * 8 + 8 → RunsPart g list part before before at (record { at = at; moved = Not })
-    run-cut h = run-nothing (λ d K S p e. let (s, q, x, y, w) = reads-first d K S g part p l e in absurd (reads-inside d K S g part q l y h))
+either-runs : (x : Bool) (y : Guard) (a b : Part) (ks : List Child) → holds y ks ≡ x → Tree.run-one (branch y a b) ks ≡ Tree.run-part (either x a b) ks
+unfolding Tree.run-one
+either-runs true y a b ks h = rw h
+either-runs false y a b ks h = rw h
 
-    pub run-unknown : (byte part 0 ≡ 0 → ⊥) → (byte part 0 ≡ 1 → ⊥) → (byte part 0 ≡ 2 → ⊥) → RunsPart g list part before before at (record { at = at; moved = Not })
-    run-unknown a b c =
-        let f = front part 0 (omega arith) in
-        run-nothing (λ d K S p e.
-        let (s, q, x, y, w) = reads-first d K S g part p l e in
-        absurd (reads-none K S g (parts-of d K S g) (take 8 part) (behind d K S g part) s x (λ k. a (sym f ∙ k)) (λ k. b (sym f ∙ k)) (λ k. c (sym f ∙ k))))
+-- the code's guard is the tree's
+truth-is : (sets g : List ℕ) (ks : List Child) (place : ℕ) (x : Bool) (y : Guard) (n : ℕ) → Crewed sets ks → x ≡ truth-of sets (guard-from g place) → guard-from g place ≡ got y n → holds y ks ≡ x
+unfolding truth-of
+truth-is sets g ks place x y n c ex er = sym (ex ∙ ap (truth-of sets) er ∙ agree sets ks (c .eight) (c .shows) (c .small) y)
 
-    pub run-go : (t : OwnState) → byte part 0 ≡ 1 → t .0 ≡ byte part 1 → RunsPart g list part before before at (record { at = at; moved = To t })
+module _ (g list part : List ℕ) (at : ℕ) where
+  abbrev ks : List Child
+  ks = children-of list
+
+  -- an if at the front of a list, in what the list reads as
+  module _ (b : Branch) (e : If b ≡ statement-record part) (p : Part) (h : Reads g part p) where
+    abbrev read : BeginsIf g part p b
+    read = read-if g part p h b e
+
+    abbrev the-if : Statement
+    the-if = branch (read .guard) (read .first) (read .second)
+
+    -- was run
+    if-done : {before mid : List ℕ} {ran : Ran} → RunsIf g list part before mid at ran → Does (Tree.run-one the-if ks) before mid at ran
+    if-done done = done the-if (read .begins .rest) (rw (read .begins .is) at h)
+
+    -- and runs the part that its guard chooses
+    module _ (sets : List ℕ) (c : Crewed sets ks) (x : Bool) (ex : x ≡ truth-of sets (guard-from g (b .guard))) where
+      abbrev side : Part
+      side = either x (read .first) (read .second)
+
+      side-reads : (q : List ℕ) → q ≡ either x (then-part b part) (else-part b part) → Reads g q side
+      side-reads q eq = rw eq (either-reads x g (then-part b part) (else-part b part) (read .first) (read .second) (read .first-reads) (read .second-reads))
+
+      side-runs : Tree.run-one the-if ks ≡ Tree.run-part side ks
+      side-runs = either-runs x (read .guard) (read .first) (read .second) ks (truth-is sets g ks (b .guard) x (read .guard) (read .stop) c ex (read .guard-reads))
+
+  -- with room for what a list reads as there is room for what its first statement sends, and for the rest
+  module _ (sets : List ℕ) (R : Room sets g list part at) where
+    room : (p : List ℕ) (next : ℕ) (t : Part) → Reads g p t → Counted (Tree.run-part t ks .sent) next → Room sets g list p next
+    room p next t h c = record { crewed = R .crewed; short = R .short; tree = t; reads = h; counted = c }
+
+    module _ (r : StatementRecord) (s : Statement) (B : Begins g part r (R .tree) s) where
+      counted-all : Counted (Tree.and-then (Tree.run-one s ks) (λ _. Tree.run-part (B .rest) ks) .sent) at
+      unfolding Tree.run-part
+      counted-all = rw (B .is) at (R .counted)
+
+      counted-one : Counted (Tree.run-one s ks .sent) at
+      counted-one = counted-first (Tree.run-one s ks) (Tree.run-part (B .rest) ks) at counted-all
+
+      room-behind : (p : List ℕ) (next : ℕ) → p ≡ behind-statement r part → Tree.run-one s ks .moved ≡ none → next ≡ at + length (sent-bytes (Tree.run-one s ks .sent)) → Room sets g list p next
+      room-behind p next ep h f =
+          room p next (B .rest) (rw ep (B .reads)) (counted-on (Tree.run-one s ks) (Tree.run-part (B .rest) ks) h at next f counted-all)
+
+    -- a do
+    module _ (m : ℕ) (c : Pattern) (e : Do m c ≡ statement-record part) where
+      pub room-send : Counted (Tree.sent-to m (pattern-as c) 0 ks) at
+      unfolding Tree.run-one
+      room-send = counted-one (Do m c) (send m (pattern-as c)) (read-do g part (R .tree) (R .reads) m c e)
+
+      pub room-sent : {before mid : List ℕ} (p : List ℕ) (next : ℕ) → Writes (Tree.sent-to m (pattern-as c) 0 ks) before mid at next → p ≡ behind-statement (Do m c) part → Room sets g list p next
+      unfolding Tree.run-one
+      room-sent p next w ep = room-behind (Do m c) (send m (pattern-as c)) (read-do g part (R .tree) (R .reads) m c e) p next ep refl (w .place)
+
+    -- an if
+    module _ (b : Branch) (e : If b ≡ statement-record part) where
+      pub room-in : (x : Bool) (p : List ℕ) → x ≡ truth-of sets (guard-from g (b .guard)) → p ≡ either x (then-part b part) (else-part b part) → Room sets g list p at
+      room-in x p ex ep =
+          let c = counted-one (If b) (the-if b e (R .tree) (R .reads)) (read b e (R .tree) (R .reads) .begins) in
+          room p at (side b e (R .tree) (R .reads) sets (R .crewed) x ex) (side-reads b e (R .tree) (R .reads) sets (R .crewed) x ex p ep)
+          (rw (side-runs b e (R .tree) (R .reads) sets (R .crewed) x ex) at c)
+
+      pub room-ran : {before mid : List ℕ} {ran : Ran} (p : List ℕ) → RunsIf g list part before mid at ran → ran .moved ≡ Not → p ≡ behind-statement (If b) part → Room sets g list p (ran .at)
+      room-ran {ran = ran} p done h ep =
+          let D = if-done b e (R .tree) (R .reads) done in
+          room-behind (If b) (the-if b e (R .tree) (R .reads)) (read b e (R .tree) (R .reads) .begins) p (ran .at) ep (sym (D .moved) ∙ rw h) (D .writes .place)
+
+  -- the ways out of `run_if`
+  pub run-in : (b : Branch) → If b ≡ statement-record part → (sets : List ℕ) → Crewed sets ks → (x : Bool) → x ≡ truth-of sets (guard-from g (b .guard)) → {before after : List ℕ} {ran : Ran} (p : List ℕ)
+      → p ≡ either x (then-part b part) (else-part b part) → RunsPart g list p before after at ran → RunsIf g list part before after at ran
+  run-in b e sets c x ex p ep on s q h =
+      let z : s ≡ the-if b e (s then q) h = let w = read b e (s then q) h .begins .is in cc in
+      rw (z, side-runs b e (s then q) h sets c x ex) (on (side b e (s then q) h sets c x ex) (side-reads b e (s then q) h sets c x ex p ep))
+
+  -- the ways out of `run_list`
+  module _ (before : List ℕ) where
+    pub run-nothing : Unknown ≡ statement-record part → RunsPart g list part before before at (record { at = at; moved = Not })
     unfolding Tree.run-part sent-bytes
-    run-go t k e =
-        record {
-          runs = λ d K S p h.
-              let (s, q, x, y, w) = reads-first d K S g part p l h in
-              let z = reads-go K S g (parts-of d K S g) (take 8 part) (behind d K S g part) s x (front part 0 (omega arith) ∙ k) in
-              rw (w, z) (record { buffer = refl; place = omega arith; moved = ap some (e ∙ sym (front part 1 (omega arith))) });
-          most = omega arith;
-          kept = refl;
-        }
+    run-nothing e p h = rw (read-end g part p h e) (record { writes = record { buffer = refl; place = omega arith }; moved = refl })
 
-    pub run-sent : (mid after : List ℕ) (c : Pattern) (m next : ℕ) (r : Ran) → byte part 0 ≡ 0 → m ≡ byte part 1 → c ≡ pattern-of (byte part 2)
-        → SendsAll list c m before mid at next → RunsPart g list (take (length part - 8) (drop 8 part)) mid after next r → RunsPart g list part before after at r
-    unfolding Tree.run-part
-    run-sent mid after c m next r k em ec done rest =
-        let plain : 8 ≡ part-length part * 8 + 8 = omega (arith, length-plain part (λ z. omega arith)) in
-        record {
-          runs = λ d K S p h.
-              let (s, q, x, y, w) = reads-first d K S g part p l h in
-              let z = reads-send K S g (parts-of d K S g) (take 8 part) (behind d K S g part) s x (front part 0 (omega arith) ∙ k) in
-              let v : s ≡ send m c = z ∙ rw (em, ec, front part 1 (omega arith), front part 2 (omega arith)) in
-              rw (w, v)
-              (does-on (Tree.run-one (send m c) (children-of list)) (Tree.run-part q (children-of list)) before after at r mid next refl (done .buffer) (done .place)
-              (rest .runs d K S q (rest-reads d K S g part 8 plain l q y)));
-          most = omega (arith, done .most, rest .most, length-take (length part - 8) (drop 8 part), length-drop 8 part);
-          kept = rest .kept ∙ ap length (done .buffer) ∙ simp length-sets;
-        }
+    pub run-go : (t : OwnState) → MoveTo t ≡ statement-record part → RunsPart g list part before before at (record { at = at; moved = To t })
+    unfolding Tree.run-part Tree.run-one sent-bytes
+    run-go t e p h = rw (read-move g part p h t e .is) (record { writes = record { buffer = refl; place = omega arith }; moved = refl })
 
-  module _ (n : ℕ) (e : n ≡ part-length part * 8 + 8) (l : n ≤ length part) (k : byte part 0 ≡ 2) (mid : List ℕ) (ran : Ran) (done : RunsIf g list (take (n - 0) part) before mid at ran) where
-    if-first : n - 0 ≡ n
-    if-first = omega arith
+    pub run-sent : (m : ℕ) (c : Pattern) → Do m c ≡ statement-record part → {mid after : List ℕ} {next : ℕ} {last : Ran} (rest : List ℕ) → Writes (Tree.sent-to m (pattern-as c) 0 ks) before mid at next
+        → rest ≡ behind-statement (Do m c) part → RunsPart g list rest mid after next last → RunsPart g list part before after at last
+    unfolding Tree.run-part Tree.run-one
+    run-sent m c e rest w er on p h =
+        let B = read-do g part p h m c e in
+        rw (B .is) (does-on (Tree.run-one (send m (pattern-as c)) ks) (Tree.run-part (B .rest) ks) refl w (on (B .rest) (rw er (B .reads))))
 
-    first-done : (d K S : ℕ) (s : Statement) → reader d K S g part (take 8 part) (behind d K S g part) ≡ some s → Does (Tree.run-one s (children-of list)) before mid at ran
-    first-done d K S s x =
-        let f = take (n - 0) part in
-        let b : byte (take 8 f) 0 ≡ 2 = front f 0 (omega arith) ∙ getD-take (n - 0) part 0 0 (omega arith) ∙ k in
-        done .runs d K S s (reads-if K S g (parts-of d K S g) (take 8 f) (records (in-eights f - 1) (drop 8 f)) s (first-reads d K S g part n e l s x) b)
+    module _ (b : Branch) (e : If b ≡ statement-record part) {mid : List ℕ} {ran : Ran} (done : RunsIf g list part before mid at ran) where
+      pub run-moved : (t : OwnState) → ran .moved ≡ To t → RunsPart g list part before mid at (record { at = ran .at; moved = To t })
+      unfolding Tree.run-part
+      run-moved t em p h =
+          let B = read b e p h .begins in
+          let D = if-done b e p h done in
+          let z : some (t .0) ≡ Tree.run-one (the-if b e p h) ks .moved = rw em at (D .moved) in
+          rw (B .is) (does-stop (Tree.run-one (the-if b e p h) ks) (Tree.run-part (B .rest) ks) (t .0) (sym z) (record { writes = D .writes; moved = z }))
 
-    pub run-moved : (t : OwnState) → ran .moved ≡ To t → RunsPart g list part before mid at (record { at = ran .at; moved = To t })
-    unfolding Tree.run-part
-    run-moved t em =
-        record {
-          runs = λ d K S p h.
-              let (s, q, x, y, w) = reads-first d K S g part p (omega arith) h in
-              let D = first-done d K S s x in
-              let z : some (t .0) ≡ Tree.run-one s (children-of list) .moved = rw em at (D .moved) in
-              rw w
-              (does-stop (Tree.run-one s (children-of list)) (Tree.run-part q (children-of list)) before mid at (record { at = ran .at; moved = To t }) (t .0) (sym z)
-              (record { buffer = D .buffer; place = D .place; moved = z }));
-          most = omega (arith, done .most, length-take (n - 0) part);
-          kept = done .kept;
-        }
-
-    pub run-on : (after : List ℕ) (r : Ran) → ran .moved ≡ Not → RunsPart g list (take (length part - n) (drop n part)) mid after (ran .at) r → RunsPart g list part before after at r
-    unfolding Tree.run-part
-    run-on after r em rest =
-        record {
-          runs = λ d K S p h.
-              let (s, q, x, y, w) = reads-first d K S g part p (omega arith) h in
-              let D = first-done d K S s x in
-              let z : none ≡ Tree.run-one s (children-of list) .moved = rw em at (D .moved) in
-              rw w
-              (does-on (Tree.run-one s (children-of list)) (Tree.run-part q (children-of list)) before after at r mid (ran .at) (sym z) (D .buffer) (D .place)
-              (rest .runs d K S q (rest-reads d K S g part n e l q y)));
-          most = omega (arith, done .most, rest .most, length-take (n - 0) part, length-take (length part - n) (drop n part), length-drop n part);
-          kept = rest .kept ∙ done .kept;
-        }
-
--- the ways out of `run_if`: its guard chooses the part that is run
-module _ (g list s before after : List ℕ) (at : ℕ) (r : Ran) (sets : List ℕ) (c : Crewed sets (children-of list)) (m place : ℕ) (x : Bool)
-    (e : length s ≡ (u16 s 4 + u16 s 6) * 8 + 8) (em : m ≡ u16 s 4 * 8 + 8) (ep : place ≡ u16 s 2) (ex : x ≡ truth-of sets (guard-from g place)) where
-  truth-is : (y : Guard) (k : ℕ) → guard-from g (u16 s 2) ≡ got y k → holds y (children-of list) ≡ x
-  unfolding truth-of
-  truth-is y k er =
-      let truth : x ≡ truth-of sets (got y k) = ex ∙ ap (λ (k : ℕ). truth-of sets (guard-from g k)) ep ∙ ap (truth-of sets) er in
-      sym (truth ∙ agree sets (children-of list) (c .eight) (c .shows) (c .small) y)
-
-  pub run-then : x ≡ true → RunsPart g list (then-bytes g s m e em) before after at r → RunsIf g list s before after at r
-  run-then h ran =
-      record {
-        runs = λ d K S t q. let (y, a, b, d′, k, er, ra, rb, et) = if-got g s m e em d K S t q in does-then t y a b (children-of list) et (truth-is y k er ∙ h) (ran .runs d′ K S a ra);
-        most = omega (arith, ran .most, length-take (m - 8) (drop 8 s), length-drop 8 s);
-        kept = ran .kept;
-      }
-
-  pub run-else : x ≡ false → RunsPart g list (else-bytes g s m e em) before after at r → RunsIf g list s before after at r
-  run-else h ran =
-      record {
-        runs = λ d K S t q. let (y, a, b, d′, k, er, ra, rb, et) = if-got g s m e em d K S t q in does-else t y a b (children-of list) et (truth-is y k er ∙ h) (ran .runs d′ K S b rb);
-        most = omega (arith, ran .most, length-take (length s - m) (drop m s), length-drop m s);
-        kept = ran .kept;
-      }
+      pub run-on : {after : List ℕ} {last : Ran} (rest : List ℕ) → ran .moved ≡ Not → rest ≡ behind-statement (If b) part → RunsPart g list rest mid after (ran .at) last → RunsPart g list part before after at last
+      unfolding Tree.run-part
+      run-on rest em er on p h =
+          let B = read b e p h .begins in
+          let D = if-done b e p h done in
+          rw (B .is) (does-on (Tree.run-one (the-if b e p h) ks) (Tree.run-part (B .rest) ks) (sym (D .moved) ∙ rw em) (D .writes) (on (B .rest) (rw er (B .reads))))

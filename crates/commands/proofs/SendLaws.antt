@@ -6,14 +6,14 @@ use mathlib.Core.Path.{_≡_, refl, sym, _∙_, ap}
 use mathlib.Core.Bool.{Bool, true, false}
 use mathlib.Core.List.{List, [], _∷_, _++_}
 use lib.Dec.{eqb}
-use lib.ListN.{length, getD, drop, set, length-drop}
+use lib.ListN.{length, getD, drop, set, length-drop, length-append}
 use lib.Seq.{sets, length-sets, drop-cons}
 use Rattle.model.specs.Words.{kept}
 use Rattle.model.specs.Tree.{Child, Pattern, everyone, of-class}
 use Rattle.model.specs.Guards.{concerns}
 use Rattle.model.specs.Commands.{Sent, sent-to}
 use Rattle.children.specs.ChildList.{children-of, sent-bytes}
-use Rattle.commands.specs.Commands.{concerned, SendsAll}
+use Rattle.commands.specs.Commands.{concerned, Writes}
 use Rattle.children.proofs.CrewLaws.{no-pair}
 
 -- a run of stores in two parts
@@ -28,6 +28,9 @@ pub bytes-append : (xs ys : List Sent) → sent-bytes (xs ++ ys) ≡ sent-bytes 
 unfolding sent-bytes
 bytes-append [] ys = refl
 bytes-append (x ∷ xs) ys = ap (λ (l : List ℕ). x .place % 256 ∷ x .place / 256 ∷ x .command ∷ l) (bytes-append xs ys)
+
+pub bytes-sum : (xs ys : List Sent) → length (sent-bytes (xs ++ ys)) ≡ length (sent-bytes xs) + length (sent-bytes ys)
+bytes-sum xs ys = ap length (bytes-append xs ys) ∙ length-append (sent-bytes xs) (sent-bytes ys)
 
 -- three stores, one place apart
 pub stored : (l k m n : List ℕ) (at x y z : ℕ) → k ≡ set l at x → m ≡ set k (at + 1) y → n ≡ set m (at + 2) z → n ≡ sets l at (x ∷ y ∷ z ∷ [])
@@ -91,7 +94,6 @@ module _ (l : List ℕ) (p : Pattern) (m : ℕ) where
     pub inside : i ≤ length l / 2
     pub buffer : sets out end (sent-bytes (left i)) ≡ sets before at (sent-bytes (left 0))
     pub place : end + length (sent-bytes (left i)) ≡ at + length (sent-bytes (left 0))
-    pub most : end ≤ at + 3 * i
     pub same : length out ≡ length before
 
   module _ {before : List ℕ} {at : ℕ} {out : List ℕ} {end i : ℕ} (s : Sending before at out end i) where
@@ -102,7 +104,6 @@ module _ (l : List ℕ) (p : Pattern) (m : ℕ) where
           inside = omega arith;
           buffer = rw (e, f) (rw (left-one i h t) at (s .buffer));
           place = omega (arith, s .place, ap length (left-one i h t));
-          most = omega arith;
           same = ap length e ∙ length-sets out end (i % 256 ∷ i / 256 ∷ m ∷ []) ∙ s .same;
         }
 
@@ -112,14 +113,12 @@ module _ (l : List ℕ) (p : Pattern) (m : ℕ) where
           inside = omega arith;
           buffer = rw (left-past i h t) at (s .buffer);
           place = rw (left-past i h t) at (s .place);
-          most = omega arith;
           same = s .same;
         }
 
-    pub send-end : length l / 2 ≤ i → length l ≤ 8192 → SendsAll l p m before out at end
-    send-end h k =
+    pub send-end : length l / 2 ≤ i → Writes (left 0) before out at end
+    send-end h =
         record {
           buffer = rw (left-none i h) at (s .buffer);
           place = omega (arith, s .place, ap length (left-none i h));
-          most = omega arith;
         }

@@ -8,28 +8,30 @@ use bodies::clauses::ACTION_CLAUSES;
 use bodies::clauses::action_command;
 use bodies::kinds::Pattern;
 use bodies::kinds::class_at;
-use bodies::kinds::own_state_at;
-use bodies::kinds::pattern_at;
-use bodies::statements::part_length;
+use bodies::statements::Branch;
+use bodies::statements::StatementRecord;
+use bodies::statements::behind_statement;
+use bodies::statements::else_part;
+use bodies::statements::statement_record;
 use bodies::statements::statements_of;
-use bodies::words::byte_at;
-use bodies::words::narrow_at;
-use bodies::words::u16_at;
+use bodies::statements::then_part;
 use model::ChildClass;
 use model::OwnState;
 use node::values::guard_true;
 use sheet::judging::Places;
 ghost use mathlib.Core.Path.{_≡_};
 ghost use mathlib.Core.List.{[], _∷_};
-ghost use Prim.Native.Nat.{_+_, _*_, _/_, _%_, _<_, _≤_};
+ghost use Prim.Native.Nat.{_/_, _%_, _<_, _≤_};
 ghost use lib.ListN.{length, set};
 ghost use lib.Seq.{sets};
-ghost use Rattle.bodies.specs.Bytes.{u16};
+ghost use Rattle.model.specs.Commands.{sent-to};
 ghost use Rattle.bodies.specs.Patterns.{pattern-as};
+ghost use Rattle.bodies.specs.StatementReaders.{statement-record};
+ghost use Rattle.bodies.specs.declared.statements.StatementRecord.the-variants.{If};
 ghost use Rattle.sheet.specs.Verdict.{Stands};
 ghost use Rattle.children.specs.ChildList.{children-of};
 ghost use Rattle.children.specs.NameSets.{Crewed};
-ghost use Rattle.commands.specs.Commands.{concerned, SendsAll, Room, RunsPart, RunsIf, first-action-for, Handles};
+ghost use Rattle.commands.specs.Commands.{concerned, Counted, Writes, Room, RunsPart, RunsIf, first-action-for, Handles};
 
 // Whether a move_to ended the clause, and where it leads.
 pub enum Moved {
@@ -81,8 +83,9 @@ fn is_meant(pattern: Pattern, class: ChildClass) -> bool
 
 // The command for each child of the pattern, in list order; the place behind the last byte.
 fn send(list: &[u8], pattern: Pattern, command: u8, out: &mut [u8], at: usize) -> usize
-    requires { ⌜ (length (now list) ≤ 8192) × (at < 1000000000000) ⌝ }
-    ensures { λ r. ⌜ SendsAll (now (list .entry)) (pattern-as pattern) command (now (out .entry)) (now (out .exit)) at r ⌝ }
+    requires { ⌜ length (now list) ≤ 8192 ⌝ }
+    requires { ⌜ Counted (sent-to command (pattern-as pattern) 0 (children-of (now list))) at ⌝ }
+    ensures { λ r. ⌜ Writes (sent-to command (pattern-as pattern) 0 (children-of (now (list .entry)))) (now (out .entry)) (now (out .exit)) at r ⌝ }
 {
     let mut end = at;
     let mut i = 0;
@@ -100,32 +103,21 @@ fn send(list: &[u8], pattern: Pattern, command: u8, out: &mut [u8], at: usize) -
 
 // Runs a list of statements on the children that the sets show: calls `run_if` on an if, which calls the list on its part.
 fn run_list(g: &[u8], sets: [u32; 8], list: &[u8], part: &[u8], out: &mut [u8], at: usize) -> Ran
-    requires { ⌜ Room sets (now list) (now part) at ⌝ }
+    requires { ⌜ Room sets (now g) (now list) (now part) at ⌝ }
     ensures { λ r. ⌜ RunsPart (now (g .entry)) (now (list .entry)) (now (part .entry)) (now (out .entry)) (now (out .exit)) at r ⌝ }
 {
-    let still = Ran {
-        at,
-        moved: Moved::Not,
-    };
-    if part.len() < 8 {
-        return still;
-    }
-    let kind = byte_at(part, 0);
-    match kind {
-        0 => {
-            let next = send(list, pattern_at(part, 2), narrow_at(part, 1), out, at);
-            run_list(g, sets, list, &part[8..], out, next)
+    let front = statement_record(part);
+    match front {
+        StatementRecord::Do(command, pattern) => {
+            let next = send(list, pattern, command, out, at);
+            run_list(g, sets, list, behind_statement(front, part), out, next)
         }
-        1 => Ran {
+        StatementRecord::MoveTo(t) => Ran {
             at,
-            moved: Moved::To(own_state_at(part, 1)),
+            moved: Moved::To(t),
         },
-        2 => {
-            let n = part_length(part) * 8 + 8;
-            if part.len() < n {
-                return still;
-            }
-            let ran = run_if(g, sets, list, &part[0..n], out, at);
+        StatementRecord::If(branch) => {
+            let ran = run_if(g, sets, list, branch, part, out, at);
             let moved = ran.moved;
             let next = ran.at;
             match moved {
@@ -133,23 +125,34 @@ fn run_list(g: &[u8], sets: [u32; 8], list: &[u8], part: &[u8], out: &mut [u8], 
                     at: next,
                     moved: Moved::To(t),
                 },
-                Moved::Not => run_list(g, sets, list, &part[n..], out, next),
+                Moved::Not => run_list(g, sets, list, behind_statement(front, part), out, next),
             }
         }
-        _ => still,
+        StatementRecord::Unknown => Ran {
+            at,
+            moved: Moved::Not,
+        },
     }
 }
 
-// Runs one if, whose record and parts are `s`: its then-part where the guard is true, else its else-part.
-fn run_if(g: &[u8], sets: [u32; 8], list: &[u8], s: &[u8], out: &mut [u8], at: usize) -> Ran
-    requires { ⌜ Room sets (now list) (now s) at × (length (now s) ≡ (u16 (now s) 4 + u16 (now s) 6) * 8 + 8) ⌝ }
-    ensures { λ r. ⌜ RunsIf (now (g .entry)) (now (list .entry)) (now (s .entry)) (now (out .entry)) (now (out .exit)) at r ⌝ }
+// Runs the if at the front of a list: its then-part where the guard is true, else its else-part.
+fn run_if(
+    g: &[u8],
+    sets: [u32; 8],
+    list: &[u8],
+    branch: Branch,
+    part: &[u8],
+    out: &mut [u8],
+    at: usize,
+) -> Ran
+    requires { ⌜ Room sets (now g) (now list) (now part) at ⌝ }
+    requires { ⌜ statement-record (now part) ≡ If branch ⌝ }
+    ensures { λ r. ⌜ RunsIf (now (g .entry)) (now (list .entry)) (now (part .entry)) (now (out .entry)) (now (out .exit)) at r ⌝ }
 {
-    let middle = u16_at(s, 4) * 8 + 8;
-    if guard_true(g, u16_at(s, 2), sets) {
-        return run_list(g, sets, list, &s[8..middle], out, at);
+    if guard_true(g, branch.guard as usize, sets) {
+        return run_list(g, sets, list, then_part(branch, part), out, at);
     }
-    run_list(g, sets, list, &s[middle..], out, at)
+    run_list(g, sets, list, else_part(branch, part), out, at)
 }
 
 // The number within state q of its action clause for a command; the number of its clauses where there is none.
@@ -204,7 +207,7 @@ pub fn handle(
     if out.len() < needed {
         return Handling::Short;
     }
-    let ran = run_list(guards, sets, list, part, out, 0);
+    let ran = run_list(guards, sets, list, part, &mut out[0..needed], 0);
     let written = ran.at;
     let moved = ran.moved;
     match moved {

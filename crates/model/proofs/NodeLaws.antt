@@ -1,4 +1,4 @@
--- What the probe finds, and the when phase against the definitions that set no bound on the moves.
+-- Laws about specs/Node.antt: what the probe finds, and the when phase against the definitions that set no bound on the moves.
 -- Assumes nothing.
 use Prim.Native.Nat.{ℕ, zero, suc, _+_, _<_}
 use native.Mathlib.Omega.{arith}
@@ -11,7 +11,7 @@ use Rattle.model.specs.Words.{choose}
 use Rattle.model.specs.Tree.{Child, everyone, any-in, atom, Referrer, move-to, run, stay, When, Class}
 use Rattle.model.specs.Guards.{holds}
 use Rattle.model.specs.Moves.{after, EndsAt, Ends, Within}
-use Rattle.model.specs.Node.{own-states, state-of, Probed, nothing, found, first-true, probe, Ending, Turn, stops, moves, turn-for, turn, moved, next, Phase, settled, loops, by-turn, walk, phase}
+use Rattle.model.specs.Node.{own-states, state-of, Probed, nothing, found, first-true, probe, Ending, by-do, Turn, stops, moves, command-of, turn-for, turn, moved, next, Phase, settled, loops, by-turn, walk, phase}
 use Rattle.model.specs.Sound.{ReferrerRight, Sound}
 use Rattle.model.proofs.Words.{clash}
 use Rattle.model.proofs.Moves.{after-some, after-zero, ends-here, ends-later, ends-once, decided}
@@ -183,3 +183,11 @@ module _ (c : Class) (ks : List Child) where
         go : (p : Phase) → phase c ks q ≡ p → (r : ℕ) × (phase c ks q ≡ loops r (own-states c)) × (after (next c ks) (own-states c) q ≡ some r)
         go (loops r m) h = let (a, b) = phase-loops q r m h in (r, h ∙ ap (loops r) a, b)
         go (settled e r m) h = absurd (never (m, r, phase-settled q e r m h .1))
+
+-- a turn that stops on a DO is by a clause that runs an action, whose command it names
+pub turn-runs : (c : Class) (q m : ℕ) (p : Probed) → turn-for c q p ≡ stops (by-do m) → (i : ℕ) × (a : ℕ) × (p ≡ found i (run a)) × (command-of c q a ≡ m)
+unfolding turn-for
+turn-runs c q m nothing e = absurd (clash (cc))
+turn-runs c q m (found i (move-to t)) e = absurd (clash (cc))
+turn-runs c q m (found i (run a)) e = (i, a, refl, cc)
+turn-runs c q m (found i stay) e = absurd (clash (cc))

@@ -5,15 +5,18 @@ use native.Mathlib.Omega.{arith}
 use mathlib.Core.Path.{_≡_, refl, ap, subst, _∙_}
 use mathlib.Core.List.{List, [], List·Memᴰ, List·Memᴰ·not-nil}
 use mathlib.Core.Logic.{_⊎_, inl, inr}
+use mathlib.Core.Option.{Option, none, some}
 use lib.ListN.{length, getD}
-use Rattle.model.specs.Words.{listed}
-use Rattle.model.specs.Tree.{When, Action, State, no-state}
+use Rattle.model.specs.Words.{maybe, listed}
+use Rattle.model.specs.Tree.{When, Part, end, Action, State, no-state}
 use Rattle.model.specs.Node.{own-states, state-of}
 use Rattle.model.specs.Crews.{child-classes}
 use Rattle.model.proofs.Words.{lt-or-le}
+use Rattle.model.proofs.CommandLaws.{part-size}
 use Rattle.model.proofs.Lists.{length-listed, getD-listed, getD-past, mem-listed}
 use Rattle.sheet.specs.Contents.{Bodies}
-use Rattle.bodies.specs.Clauses.{in-fours, name-set, count-at, count-sum, when-count, action-count, first-when, first-action}
+use Rattle.bodies.specs.Clauses.{in-fours, in-eights, name-set, count-at, count-sum, when-count, action-count, first-when, first-action, body-of}
+use Rattle.bodies.proofs.PartSizes.{body-sized as part-sized}
 use Rattle.sheet.specs.Reading.{when-in, action-in, state-in, class-in}
 
 module _ (s : Bodies) where
@@ -81,3 +84,12 @@ module _ (s : Bodies) where
   pub action-of-in : (q i : ℕ) (d : Action) → q < in-fours (s .states) → i < action-count (s .states) q → getD (state-of (class-in s) q .actions) i d ≡ action-in s (first-action (s .states) q + i)
   unfolding state-in
   action-of-in q i d l m = rw (state-of-in q l) (getD-listed (first-action (s .states) q) (action-count (s .states) q) (action-in s) d i (first-action (s .states) q + i) m refl)
+
+-- an action clause has no more statements than the sheet
+pub body-sized : (s : Bodies) (a : ℕ) → part-size (action-in s a .body) ≤ in-eights (s .statements)
+unfolding action-in part-size
+body-sized s a = go (body-of (in-fours (s .classes)) (in-fours (s .states)) (s .guards) (s .actions) (s .statements) a) refl
+  where
+    go : (o : Option Part) → body-of (in-fours (s .classes)) (in-fours (s .states)) (s .guards) (s .actions) (s .statements) a ≡ o → part-size (maybe o (λ _. end) (λ p. p)) ≤ in-eights (s .statements)
+    go none e = omega arith
+    go (some p) e = part-sized (in-fours (s .classes)) (in-fours (s .states)) (s .guards) (s .actions) (s .statements) a p e

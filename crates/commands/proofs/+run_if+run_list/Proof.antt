@@ -4,9 +4,14 @@
 use borrow.Author.Needs.{needs}
 use Prim.Native.Nat.{ℕ, _+_, _*_, _<_}
 use native.Mathlib.Omega.{arith}
+use mathlib.Core.Path.{_≡_, sym, _∙_}
+use mathlib.Core.Bool.{true, false}
 use lib.ListN.{length}
-use Rattle.commands.proofs.ReadLaws.{whole-if}
-use Rattle.commands.proofs.RunLaws.{run-empty, run-cut, run-unknown, run-go, run-sent, run-moved, run-on, run-then, run-else}
+use Rattle.bodies.specs.StatementReaders.{statement-record}
+use Rattle.bodies.specs.declared.statements.StatementRecord.{StatementRecord}
+use Rattle.bodies.specs.declared.statements.StatementRecord.the-variants.{Do, If}
+use Rattle.bodies.proofs.ReaderLaws.{told, behind-falls, parts-fall}
+use Rattle.commands.proofs.RunLaws.{room-send, room-sent, room-in, room-ran, run-in, run-nothing, run-go, run-sent, run-moved, run-on}
 use borrow.Fn.Kinds.{In}
 use borrow.Fn.PlainCycle.{Measures, is, falls, and}
 use Rattle.commands.proofs.run_if.Reads as run-if
@@ -15,19 +20,17 @@ use Rattle.commands.proofs.+run_if+run_list.Lts-run_if as run-if-lts
 use Rattle.commands.proofs.run_list.Reads as run-list
 use Rattle.commands.proofs.run_list.Kinds as run-list-kinds
 use Rattle.commands.proofs.+run_if+run_list.Lts-run_list as run-list-lts
+use Rattle.bodies.proofs.statements.behind_statement.Reads as behind-statement-reads
+use Rattle.bodies.proofs.statements.else_part.Reads as else-part-reads
+use Rattle.bodies.proofs.statements.statement_record.Reads as statement-record-reads
+use Rattle.bodies.proofs.statements.then_part.Reads as then-part-reads
 use Rattle.commands.proofs.send.Reads as send-reads
 use Rattle.node.proofs.values.guard_true.Reads as guard-true-reads
-use Rattle.bodies.proofs.statements.part_length.Reads as part-length-reads
-use Rattle.bodies.proofs.kinds.own_state_at.Reads as own-state-at-reads
-use Rattle.bodies.proofs.kinds.pattern_at.Reads as pattern-at-reads
-use Rattle.bodies.proofs.words.byte_at.Reads as byte-at-reads
-use Rattle.bodies.proofs.words.narrow_at.Reads as narrow-at-reads
-use Rattle.bodies.proofs.words.u16_at.Reads as u16-at-reads
 use Rattle.commands.proofs.+run_if+run_list.{statement}
 use Rattle.commands.proofs.+run_if+run_list.Tie.{close}
 
 abbrev μ-run-if : Measures 4 run-if-kinds.ps ℕ
-μ-run-if κs a = 2 * length (a .1 .1 .1 .0 .now)
+μ-run-if κs a = 2 * length (a .1 .1 .1 .1 .0 .now)
 
 abbrev μ-run-list : Measures 4 run-list-kinds.ps ℕ
 μ-run-list κs a = 2 * length (a .1 .1 .1 .0 .now) + 1
@@ -48,73 +51,130 @@ module _ (t : ℕ) where
   run-list-below = and 4 run-list-kinds.ps (falls 4 run-list-kinds.ps _<_ μ-run-list t) run-list.Pre
 
   abbrev run-if-uses : run-if-lts.Claims
-  run-if-uses = (u16-at-reads.Asked, u16-at-reads.Learnt, guard-true-reads.Asked, guard-true-reads.Learnt, run-list-below, run-list.Post)
+  run-if-uses = (guard-true-reads.Asked, guard-true-reads.Learnt, then-part-reads.Asked, then-part-reads.Learnt, run-list-below, run-list.Post, else-part-reads.Asked, else-part-reads.Learnt)
 
   run-if-run-list-requires : run-if-lts.Need-run-list-requires run-if-uses run-if-at run-if.Post
-  run-if-run-list-requires c κs = (search needs, record { crewed = c .before .before .before .before .before .before .before .before .before .before .pre .1 .0 .crewed; short = c .before .before .before .before .before .before .before .before .before .before .pre .1 .0 .short; counted = omega (arith, c .before .before .before .before .before .before .before .before .before .before .pre) })
+  run-if-run-list-requires c κs =
+      let x = c .before .before .before in
+      let s = x .before .before .before .before .before .before in
+      let a = s .args in
+      let e = sym (s .pre .1 .1) in
+      let p = c .before .then-part in
+      (omega (arith, parts-fall 0 (a .branch .thens) (a .part .now) (p .result .now) (told (a .part .now) _ e .0) (p .ensures)), room-in (a .g .now) (a .list .now) (a .part .now) (a .at) (a .sets) (s .pre .1 .0) (a .branch) e true _ (sym (c .before .before .if1 .taken) ∙ x .guard-true .ensures) (p .ensures))
 
   run-if-returns : run-if-lts.Need-returns run-if-uses run-if-at run-if.Post
   run-if-returns c =
-      let a = c .before .before .before .before .before .before .before .before .before .before .before .before .before .args in
-      run-then (a .g .now) (a .list .now) (a .s .now) (a .out .now) _ (a .at) _ (a .sets) (c .before .before .before .before .before .before .before .before .before .before .before .before .before .pre .1 .0 .crewed) (c .before .before .before .before .before .before .before .before .u16-at .result * 8 + 8) _ _ (c .before .before .before .before .before .before .before .before .before .before .before .before .before .pre .1 .1) (omega arith) (c .before .before .before .before .before .before .before .u16-at2 .ensures .0) (c .before .before .before .before .before .before .guard-true .ensures) (c .before .before .before .before .before .if1 .taken) (c .before .before .run-list .ensures)
+      let t = c .before .before .before .before in
+      let x = t .before .before in
+      let s = x .before .before .before .before .before .before in
+      let a = s .args in
+      run-in (a .g .now) (a .list .now) (a .part .now) (a .at) (a .branch) (sym (s .pre .1 .1)) (a .sets) (s .pre .1 .0 .crewed) true (sym (t .before .if1 .taken) ∙ x .guard-true .ensures) _ (t .then-part .ensures) (c .before .before .run-list .ensures)
 
   run-if-run-list-requires-2 : run-if-lts.Need-run-list-requires-2 run-if-uses run-if-at run-if.Post
-  run-if-run-list-requires-2 c κs = (search needs, record { crewed = c .before .before .before .before .before .before .before .before .before .before .pre .1 .0 .crewed; short = c .before .before .before .before .before .before .before .before .before .before .pre .1 .0 .short; counted = omega (arith, c .before .before .before .before .before .before .before .before .before .before .pre) })
+  run-if-run-list-requires-2 c κs =
+      let x = c .before .before .before in
+      let s = x .before .before .before .before .before .before in
+      let a = s .args in
+      let e = sym (s .pre .1 .1) in
+      let p = c .before .else-part in
+      (omega (arith, parts-fall (a .branch .thens) (a .branch .elses) (a .part .now) (p .result .now) (told (a .part .now) _ e .0) (p .ensures)), room-in (a .g .now) (a .list .now) (a .part .now) (a .at) (a .sets) (s .pre .1 .0) (a .branch) e false _ (sym (c .before .before .if1 .left) ∙ x .guard-true .ensures) (p .ensures))
 
   run-if-returns-2 : run-if-lts.Need-returns-2 run-if-uses run-if-at run-if.Post
   run-if-returns-2 c =
-      let a = c .before .before .before .before .before .before .before .before .before .before .before .before .before .args in
-      run-else (a .g .now) (a .list .now) (a .s .now) (a .out .now) _ (a .at) _ (a .sets) (c .before .before .before .before .before .before .before .before .before .before .before .before .before .pre .1 .0 .crewed) (c .before .before .before .before .before .before .before .before .u16-at .result * 8 + 8) _ _ (c .before .before .before .before .before .before .before .before .before .before .before .before .before .pre .1 .1) (omega arith) (c .before .before .before .before .before .before .before .u16-at2 .ensures .0) (c .before .before .before .before .before .before .guard-true .ensures) (c .before .before .before .before .before .if1 .left) (c .before .before .run-list2 .ensures)
+      let t = c .before .before .before .before in
+      let x = t .before .before in
+      let s = x .before .before .before .before .before .before in
+      let a = s .args in
+      run-in (a .g .now) (a .list .now) (a .part .now) (a .at) (a .branch) (sym (s .pre .1 .1)) (a .sets) (s .pre .1 .0 .crewed) false (sym (t .before .if1 .left) ∙ x .guard-true .ensures) _ (t .else-part .ensures) (c .before .before .run-list2 .ensures)
 
   abbrev run-list-uses : run-list-lts.Claims
-  run-list-uses = (byte-at-reads.Asked, byte-at-reads.Learnt, pattern-at-reads.Asked, pattern-at-reads.Learnt, narrow-at-reads.Asked, narrow-at-reads.Learnt, send-reads.Asked, send-reads.Learnt, run-list-below, run-list.Post, own-state-at-reads.Asked, own-state-at-reads.Learnt, part-length-reads.Asked, part-length-reads.Learnt, run-if-below, run-if.Post)
+  run-list-uses = (statement-record-reads.Asked, statement-record-reads.Learnt, send-reads.Asked, send-reads.Learnt, behind-statement-reads.Asked, behind-statement-reads.Learnt, run-list-below, run-list.Post, run-if-below, run-if.Post)
+
+  -- what `run-list` was called with, and the record that an arm knows
+  abbrev start : run-list-lts.After-statement-record run-list-uses run-list-at run-list.Post → run-list-lts.Start run-list-uses run-list-at run-list.Post
+  start r = r .before .before .before .before .before
+
+  abbrev do-of : run-list-lts.After-front run-list-uses run-list-at run-list.Post → StatementRecord
+  do-of k = Do (k .front .given .0 .0) (k .front .given .0 .1 .0)
+
+  do-front : (k : run-list-lts.After-front run-list-uses run-list-at run-list.Post) → do-of k ≡ statement-record (start (k .before .before) .args .part .now)
+  do-front k = sym (k .front .given .1) ∙ k .before .before .statement-record .ensures
+
+  abbrev if-of : run-list-lts.After-front3 run-list-uses run-list-at run-list.Post → StatementRecord
+  if-of k = If (k .front3 .given .0 .0)
+
+  if-front : (k : run-list-lts.After-front3 run-list-uses run-list-at run-list.Post) → if-of k ≡ statement-record (start (k .before .before) .args .part .now)
+  if-front k = sym (k .front3 .given .1) ∙ k .before .before .statement-record .ensures
+
+  run-list-send-requires : run-list-lts.Need-send-requires run-list-uses run-list-at run-list.Post
+  run-list-send-requires c κs =
+      let k = c .before .before in
+      let s = start (k .before .before) in
+      let a = s .args in
+      (s .pre .1 .short, room-send (a .g .now) (a .list .now) (a .part .now) (a .at) (a .sets) (s .pre .1) _ _ (do-front k))
+
+  run-list-run-list-requires : run-list-lts.Need-run-list-requires run-list-uses run-list-at run-list.Post
+  run-list-run-list-requires c κs =
+      let d = c .before .before .before .before in
+      let k = d .before .before .before in
+      let s = start (k .before .before) in
+      let a = s .args in
+      let p = c .before .behind-statement in
+      (omega (arith, behind-falls (do-of k) (a .part .now) (p .result .now) (told (a .part .now) _ (do-front k) .0) (p .ensures)), room-sent (a .g .now) (a .list .now) (a .part .now) (a .at) (a .sets) (s .pre .1) _ _ (do-front k) _ _ (d .send .ensures) (p .ensures))
+
+  run-list-run-if-requires : run-list-lts.Need-run-if-requires run-list-uses run-list-at run-list.Post
+  run-list-run-if-requires c κs =
+      let k = c .before .before in
+      (search needs, (start (k .before .before) .pre .1, sym (if-front k)))
+
+  run-list-run-list-requires-2 : run-list-lts.Need-run-list-requires-2 run-list-uses run-list-at run-list.Post
+  run-list-run-list-requires-2 c κs =
+      let o = c .before .before in
+      let d = o .before .before .before .before in
+      let k = d .before .before .before in
+      let s = start (k .before .before) in
+      let a = s .args in
+      let p = c .before .behind-statement2 in
+      (omega (arith, behind-falls (if-of k) (a .part .now) (p .result .now) (told (a .part .now) _ (if-front k) .0) (p .ensures)), room-ran (a .g .now) (a .list .now) (a .part .now) (a .at) (a .sets) (s .pre .1) _ (if-front k) _ (d .run-if .ensures) (o .enum-told .given .1) (p .ensures))
 
   run-list-returns : run-list-lts.Need-returns run-list-uses run-list-at run-list.Post
   run-list-returns c =
-      let a = c .before .before .before .before .before .args in
-      run-empty (a .g .now) (a .list .now) (a .part .now) (a .out .now) (a .at) (c .if1 .taken)
-
-  run-list-run-list-requires : run-list-lts.Need-run-list-requires run-list-uses run-list-at run-list.Post
-  run-list-run-list-requires c κs = (search needs, record { crewed = c .before .before .before .before .before .before .before .before .before .before .before .before .before .before .before .pre .1 .crewed; short = c .before .before .before .before .before .before .before .before .before .before .before .before .before .before .before .pre .1 .short; counted = omega (arith, c .before .before .before .before .before .before .before .before .before .before .before .before .before .before .before .pre, c .before .before .before .before .send .ensures) })
+      let p = c .before .before .before .before in
+      let d = p .before .before .before in
+      let k = d .before .before .before in
+      let a = start (k .before .before) .args in
+      run-sent (a .g .now) (a .list .now) (a .part .now) (a .at) (a .out .now) _ _ (do-front k) _ (d .send .ensures) (p .behind-statement .ensures) (c .before .before .run-list .ensures)
 
   run-list-returns-2 : run-list-lts.Need-returns-2 run-list-uses run-list-at run-list.Post
   run-list-returns-2 c =
-      let a = c .before .before .before .before .before .before .before .before .before .args in
-      run-cut (a .g .now) (a .list .now) (a .part .now) (a .out .now) (a .at) (c .before .before .before .before .if1 .left) (omega arith)
-
-  run-list-run-if-requires : run-list-lts.Need-run-if-requires run-list-uses run-list-at run-list.Post
-  run-list-run-if-requires c κs = (search needs, (record { crewed = c .before .before .before .before .before .before .before .before .before .before .before .pre .1 .crewed; short = c .before .before .before .before .before .before .before .before .before .before .before .pre .1 .short; counted = omega (arith, c .before .before .before .before .before .before .before .before .before .before .before .pre) }, whole-if (c .before .before .before .before .before .before .before .before .before .before .before .args .part .now) (c .before .before .before .part-length .result * 8 + 8) (omega arith) (omega arith) (omega arith)))
-
-  run-list-run-list-requires-2 : run-list-lts.Need-run-list-requires-2 run-list-uses run-list-at run-list.Post
-  run-list-run-list-requires-2 c κs = (search needs, record { crewed = c .before .before .before .before .before .before .before .before .before .before .before .before .before .before .before .before .before .before .pre .1 .crewed; short = c .before .before .before .before .before .before .before .before .before .before .before .before .before .before .before .before .before .before .pre .1 .short; counted = omega (arith, c .before .before .before .before .before .before .before .before .before .before .before .before .before .before .before .before .before .before .pre, c .before .before .before .before .before .before .run-if .ensures) })
+      let r = c .before .before .before in
+      let a = start r .args in
+      run-go (a .g .now) (a .list .now) (a .part .now) (a .at) (a .out .now) _ (sym (c .before .front2 .given .1) ∙ r .statement-record .ensures)
 
   run-list-returns-3 : run-list-lts.Need-returns-3 run-list-uses run-list-at run-list.Post
   run-list-returns-3 c =
-      let a = c .before .before .before .before .before .before .before .before .before .before .before .before .before .before .before .before .before .before .args in
-      run-sent (a .g .now) (a .list .now) (a .part .now) (a .out .now) (a .at) (c .before .before .before .before .before .before .before .before .before .before .before .before .before .if1 .left) _ _ _ _ _ _ (omega arith) (c .before .before .before .before .before .before .before .before .before .narrow-at .ensures) (c .before .before .before .before .before .before .before .before .before .before .pattern-at .ensures) (c .before .before .before .before .before .before .before .send .ensures) (c .before .before .run-list .ensures)
+      let d = c .before .before .before .before .before in
+      let k = d .before .before .before in
+      let a = start (k .before .before) .args in
+      run-moved (a .g .now) (a .list .now) (a .part .now) (a .at) (a .out .now) _ (if-front k) (d .run-if .ensures) _ (c .before .moved .given .1)
 
   run-list-returns-4 : run-list-lts.Need-returns-4 run-list-uses run-list-at run-list.Post
   run-list-returns-4 c =
-      let a = c .before .before .before .before .before .before .before .before .args in
-      run-go (a .g .now) (a .list .now) (a .part .now) (a .out .now) (a .at) (c .before .before .before .if1 .left) _ (omega arith) (c .own-state-at .ensures)
+      let p = c .before .before .before .before in
+      let o = p .before in
+      let d = o .before .before .before .before in
+      let k = d .before .before .before in
+      let a = start (k .before .before) .args in
+      run-on (a .g .now) (a .list .now) (a .part .now) (a .at) (a .out .now) _ (if-front k) (d .run-if .ensures) _ (o .enum-told .given .1) (p .behind-statement2 .ensures) (c .before .before .run-list2 .ensures)
 
   run-list-returns-5 : run-list-lts.Need-returns-5 run-list-uses run-list-at run-list.Post
   run-list-returns-5 c =
-      let a = c .before .before .before .before .before .before .before .before .before .before .before .before .before .before .before .before .before .args in
-      run-moved (a .g .now) (a .list .now) (a .part .now) (a .out .now) (a .at) (c .before .before .before .before .before .before .before .before .before .part-length .result * 8 + 8) (omega arith) (omega arith) (omega arith) _ _ (c .before .before .before .before .before .run-if .ensures) _ (c .before .moved .given .1)
-
-  run-list-returns-6 : run-list-lts.Need-returns-6 run-list-uses run-list-at run-list.Post
-  run-list-returns-6 c =
-      let a = c .before .before .before .before .before .before .before .before .before .before .before .before .before .before .before .before .before .before .before .before .before .args in
-      run-on (a .g .now) (a .list .now) (a .part .now) (a .out .now) (a .at) (c .before .before .before .before .before .before .before .before .before .before .before .before .before .part-length .result * 8 + 8) (omega arith) (omega arith) (omega arith) _ _ (c .before .before .before .before .before .before .before .before .before .run-if .ensures) _ _ (c .before .before .before .before .before .enum-told .given .1) (c .before .before .run-list2 .ensures)
-
-  run-list-returns-7 : run-list-lts.Need-returns-7 run-list-uses run-list-at run-list.Post
-  run-list-returns-7 c =
-      let a = c .before .before .before .before .before .before .before .args in
-      run-unknown (a .g .now) (a .list .now) (a .part .now) (a .out .now) (a .at) (c .before .before .if1 .left) (λ k. c .match .rest .0 .0 .1 (omega arith)) (λ k. c .match .rest .0 .1 (omega arith)) (λ k. c .match .rest .1 (omega arith))
+      let r = c .before .before in
+      let a = start r .args in
+      run-nothing (a .g .now) (a .list .now) (a .part .now) (a .at) (a .out .now) (sym (c .enum-told2 .given .1) ∙ r .statement-record .ensures)
 
 pub +run-if+run-list-spec : {M : Type 1} → statement M
 +run-if+run-list-spec =
     close μ-run-if μ-run-list
-    (λ t. run-if-lts.spec (run-if-uses t) (run-if-at t) run-if.Post (λ c κs. search needs) (λ c. search needs) (λ c. search needs) (λ c κs. search needs) (λ c κs. search needs) (λ c. search needs) (λ c. search needs) (λ c. search needs) (run-if-run-list-requires t) (λ c. search needs) (run-if-returns t) (λ c. search needs) (λ c. search needs) (λ c. search needs) (run-if-run-list-requires-2 t) (λ c. search needs) (run-if-returns-2 t))
-    (λ t. run-list-lts.spec (run-list-uses t) (run-list-at t) run-list.Post (run-list-returns t) (λ c κs. search needs) (λ c κs. search needs) (λ c κs. search needs) (λ c κs. search needs) (λ c. search needs) (λ c. search needs) (λ c. search needs) (run-list-run-list-requires t) (λ c κs. search needs) (λ c κs. search needs) (λ c. search needs) (λ c. search needs) (run-list-returns-2 t) (λ c. search needs) (λ c. search needs) (λ c. search needs) (run-list-run-if-requires t) (λ c. search needs) (λ c. search needs) (λ c. search needs) (λ c. search needs) (λ c. search needs) (run-list-run-list-requires-2 t) (λ c. search needs) (run-list-returns-3 t) (run-list-returns-4 t) (λ c. search needs) (run-list-returns-5 t) (λ c. search needs) (run-list-returns-6 t) (run-list-returns-7 t))
+    (λ t. run-if-lts.spec (run-if-uses t) (run-if-at t) run-if.Post (λ c. search needs) (λ c κs. search needs) (λ c κs. search needs) (run-if-run-list-requires t) (λ c. search needs) (run-if-returns t) (λ c κs. search needs) (run-if-run-list-requires-2 t) (λ c. search needs) (run-if-returns-2 t))
+    (λ t. run-list-lts.spec (run-list-uses t) (run-list-at t) run-list.Post (λ c κs. search needs) (λ c. search needs) (run-list-send-requires t) (λ c κs. search needs) (run-list-run-list-requires t) (λ c. search needs) (λ c. search needs) (run-list-run-if-requires t) (λ c. search needs) (λ c. search needs) (λ c κs. search needs) (run-list-run-list-requires-2 t) (λ c. search needs) (λ c. search needs) (run-list-returns t) (run-list-returns-2 t) (λ c. search needs) (run-list-returns-3 t) (λ c. search needs) (run-list-returns-4 t) (run-list-returns-5 t))

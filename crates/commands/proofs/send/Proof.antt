@@ -25,7 +25,7 @@ loop-again-2 c =
     send-past _ _ _ (b .before .before .before .loop .inv) (b .before .before .loop-test .taken) (sent-told (b .before .before .before .before .before .before .args .list .now) _ (b .before .before .before .before .before .before .args .command) (b .before .before .before .loop .i) _ (b .before .class-at .ensures) _ (b .is-meant .ensures) (c .if1 .left))
 
 returns : tie.Need-returns Inv-loop μ-loop
-returns c = send-end _ _ _ (c .before .loop .inv) (c .loop-test .left) (c .before .before .before .before .pre .0)
+returns c = send-end _ _ _ (c .before .loop .inv) (c .loop-test .left)
 
 pub send-spec : {M : Type 1} → statement M
 send-spec =

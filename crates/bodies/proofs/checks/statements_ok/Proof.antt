@@ -9,7 +9,7 @@ use Rattle.model.specs.Words.{is-some, each}
 use Rattle.model.proofs.Words.{each-none, each-so-far, each-all, each-broken, passed, not-passed}
 use Rattle.bodies.specs.Clauses.{body-of}
 use Rattle.bodies.specs.BodyRules.{statements-right}
-use Rattle.bodies.proofs.StatementLaws.{sum-inside, body-reads}
+use Rattle.bodies.proofs.StatementLaws.{body-reads}
 use Rattle.bodies.proofs.checks.statements_ok.Statement.{statement}
 use Rattle.bodies.proofs.checks.statements_ok.Tie as tie
 
@@ -25,8 +25,7 @@ loop-holds c = (search needs, each-none _)
 
 statements-of-requires : tie.Need-statements-of-requires Inv-loop μ-loop
 statements-of-requires c κs =
-    let a = c .before .before .before .before .before in
-    (omega (arith, a .pre .0), sum-inside (a .args .actions .now) 2 (c .before .loop .a) _ _ (c .loop-test .taken) (a .pre .1))
+    omega (arith, c .before .before .before .before .before .pre .0)
 
 returns : tie.Need-returns Inv-loop μ-loop
 unfolding statements-right

@@ -1,4 +1,4 @@
--- `part_ok` reads a part one statement at a time, and `statement_ok` goes by the kind: a law for each way out.
+-- `part_ok` reads a part one statement at a time, and `statement_ok` goes by the record: a law for each way out.
 -- With each call the bytes get fewer, but for the call of `statement_ok`, whose measure is one less on the same bytes.
 -- Assumes nothing.
 use borrow.Author.Needs.{needs}
@@ -7,7 +7,8 @@ use native.Mathlib.Omega.{arith}
 use mathlib.Core.Path.{sym, _∙_}
 use lib.ListN.{length}
 use Rattle.model.proofs.Words.{passed, not-passed}
-use Rattle.bodies.proofs.PartLaws.{length-if, first-whole, part-empty, part-cut, part-broken, part-goes-on}
+use Rattle.bodies.proofs.ReaderLaws.{behind-falls, parts-fall}
+use Rattle.bodies.proofs.PartLaws.{right-empty, right-cut, right-broken, right-goes-on}
 use Rattle.bodies.proofs.StatementLaws.{right-do, right-move, right-unknown, right-not-zero, right-too-deep, right-if}
 use borrow.Fn.Kinds.{In}
 use borrow.Fn.PlainCycle.{Measures, is, falls, and}
@@ -18,11 +19,14 @@ use Rattle.bodies.proofs.statements.statement_ok.Reads as statement-ok
 use Rattle.bodies.proofs.statements.statement_ok.Kinds as statement-ok-kinds
 use Rattle.bodies.proofs.statements.+part_ok+statement_ok.Lts-statement_ok as statement-ok-lts
 use Rattle.bodies.proofs.guards.guard_ok.Reads as guard-ok-reads
+use Rattle.bodies.proofs.statements.behind_statement.Reads as behind-statement-reads
 use Rattle.bodies.proofs.statements.do_ok.Reads as do-ok-reads
+use Rattle.bodies.proofs.statements.else_part.Reads as else-part-reads
 use Rattle.bodies.proofs.statements.move_ok.Reads as move-ok-reads
-use Rattle.bodies.proofs.statements.part_length.Reads as part-length-reads
+use Rattle.bodies.proofs.statements.records_beside.Reads as records-beside-reads
+use Rattle.bodies.proofs.statements.statement_record.Reads as statement-record-reads
+use Rattle.bodies.proofs.statements.then_part.Reads as then-part-reads
 use Rattle.bodies.proofs.words.byte_at.Reads as byte-at-reads
-use Rattle.bodies.proofs.words.u16_at.Reads as u16-at-reads
 use Rattle.bodies.proofs.statements.+part_ok+statement_ok.{statement}
 use Rattle.bodies.proofs.statements.+part_ok+statement_ok.Tie.{close}
 
@@ -48,79 +52,81 @@ module _ (t : ℕ) where
   statement-ok-below = and 2 statement-ok-kinds.ps (falls 2 statement-ok-kinds.ps _<_ μ-statement-ok t) statement-ok.Pre
 
   abbrev part-ok-uses : part-ok-lts.Claims
-  part-ok-uses = (part-length-reads.Asked, part-length-reads.Learnt, statement-ok-below, statement-ok.Post, part-ok-below, part-ok.Post)
+  part-ok-uses = (statement-record-reads.Asked, statement-record-reads.Learnt, records-beside-reads.Asked, records-beside-reads.Learnt, statement-ok-below, statement-ok.Post, behind-statement-reads.Asked, behind-statement-reads.Learnt, part-ok-below, part-ok.Post)
 
   part-ok-returns : part-ok-lts.Need-returns part-ok-uses part-ok-at part-ok.Post
-  part-ok-returns c =
-      let a = c .before .before .before .args in
-      sym (part-empty (a .depth) (a .classes) (a .states) (a .g .now) (a .part .now) (c .if1 .taken))
+  part-ok-returns c = sym (right-empty _ _ _ _ _ (c .if1 .taken))
 
   part-ok-returns-2 : part-ok-lts.Need-returns-2 part-ok-uses part-ok-at part-ok.Post
   part-ok-returns-2 c =
-      let a = c .before .before .before .before .before .args in
-      sym (part-cut (a .depth) (a .classes) (a .states) (a .g .now) (a .part .now) (c .before .before .if1 .left) (omega arith))
-
-  part-ok-statement-ok-requires : part-ok-lts.Need-statement-ok-requires part-ok-uses part-ok-at part-ok.Post
-  part-ok-statement-ok-requires c κs =
-      (search needs, first-whole (c .before .before .before .before .before .before .args .part .now) (c .before .before .part-length .result * 8 + 8) (omega arith) (omega arith))
+      let r = c .before .before in
+      sym (right-cut _ _ _ _ _ _ (r .statement-record .ensures) (r .before .if1 .left) (omega arith))
 
   part-ok-returns-3 : part-ok-lts.Need-returns-3 part-ok-uses part-ok-at part-ok.Post
   part-ok-returns-3 c =
-      let a = c .before .before .before .before .before .before .before .before .args in
-      sym (part-broken (a .depth) (a .classes) (a .states) (a .g .now) (a .part .now) (c .before .before .before .before .part-length .result * 8 + 8) (omega arith) (omega arith) (not-passed (c .before .statement-ok .ensures) (c .if3 .taken)))
+      let r = c .before .before .before .before in
+      sym (right-broken _ _ _ _ _ _ (r .statement-record .ensures) (r .before .if1 .left) (omega arith) (not-passed (c .before .statement-ok .ensures) (c .if3 .taken)))
+
+  part-ok-part-ok-requires : part-ok-lts.Need-part-ok-requires part-ok-uses part-ok-at part-ok.Post
+  part-ok-part-ok-requires c κs =
+      let r = c .before .before .before .before .before in
+      let s = r .before .before .before .before in
+      (omega (arith, behind-falls (r .statement-record .result) (s .args .part .now) (c .behind-statement .result .now) (r .before .if1 .left) (c .behind-statement .ensures)), tt)
 
   part-ok-returns-4 : part-ok-lts.Need-returns-4 part-ok-uses part-ok-at part-ok.Post
   part-ok-returns-4 c =
-      let a = c .before .before .before .before .before .before .before .before .before .before .args in
-      c .part-ok .ensures ∙ sym (part-goes-on (a .depth) (a .classes) (a .states) (a .g .now) (a .part .now) (c .before .before .before .before .before .before .part-length .result * 8 + 8) (omega arith) (omega arith) (passed (c .before .before .before .statement-ok .ensures) (c .before .before .if3 .left)))
+      let o = c .before .before .before in
+      let r = o .before .before .before in
+      c .part-ok .ensures ∙ sym (right-goes-on _ _ _ _ _ _ (r .statement-record .ensures) (r .before .if1 .left) _ (c .before .behind-statement .ensures) (omega arith) (passed (o .statement-ok .ensures) (c .before .before .if3 .left)))
 
   abbrev statement-ok-uses : statement-ok-lts.Claims
-  statement-ok-uses = (byte-at-reads.Asked, byte-at-reads.Learnt, do-ok-reads.Asked, do-ok-reads.Learnt, move-ok-reads.Asked, move-ok-reads.Learnt, u16-at-reads.Asked, u16-at-reads.Learnt, part-ok-below, part-ok.Post, guard-ok-reads.Asked, guard-ok-reads.Learnt)
+  statement-ok-uses = (statement-record-reads.Asked, statement-record-reads.Learnt, do-ok-reads.Asked, do-ok-reads.Learnt, move-ok-reads.Asked, move-ok-reads.Learnt, byte-at-reads.Asked, byte-at-reads.Learnt, then-part-reads.Asked, then-part-reads.Learnt, part-ok-below, part-ok.Post, else-part-reads.Asked, else-part-reads.Learnt, guard-ok-reads.Asked, guard-ok-reads.Learnt)
 
   statement-ok-returns : statement-ok-lts.Need-returns statement-ok-uses statement-ok-at statement-ok.Post
   statement-ok-returns c =
-      let a = c .before .before .before .before .before .before .args in
-      sym (right-not-zero (a .depth) (a .classes) (a .states) (a .g .now) (a .s .now) (omega arith) (λ z. c .if1 .taken (omega arith)))
+      let k = c .before .before .before in
+      sym (right-not-zero _ _ _ _ _ _ (sym (k .front .given .1) ∙ k .before .before .statement-record .ensures) (λ z. c .if1 .taken (omega arith)))
 
   statement-ok-returns-2 : statement-ok-lts.Need-returns-2 statement-ok-uses statement-ok-at statement-ok.Post
   statement-ok-returns-2 c =
-      let a = c .before .before .before .before .before .before .before .args in
-      sym (right-too-deep (a .depth) (a .classes) (a .states) (a .g .now) (a .s .now) (omega arith) (omega arith) (c .if2 .taken))
-
-  statement-ok-part-part-ok-end : statement-ok-lts.Need-part-part-ok-end statement-ok-uses statement-ok-at statement-ok.Post
-  statement-ok-part-part-ok-end c = omega (arith, length-if (c .before .before .before .before .before .before .before .before .args .s .now) (omega arith))
+      let k = c .before .before .before .before in
+      sym (right-too-deep _ _ _ _ _ _ (sym (k .front .given .1) ∙ k .before .before .statement-record .ensures) (omega arith) (c .if2 .taken))
 
   statement-ok-part-ok-requires : statement-ok-lts.Need-part-ok-requires statement-ok-uses statement-ok-at statement-ok.Post
-  statement-ok-part-ok-requires c κs = (omega (arith, length-if (c .before .before .before .before .before .before .before .before .before .args .s .now) (omega arith)), tt)
+  statement-ok-part-ok-requires c κs =
+      let k = c .before .before .before .before .before in
+      let s = k .before .before .before .before .before in
+      (omega (arith, parts-fall 0 (k .front .given .0 .0 .thens) (s .args .part .now) (c .then-part .result .now) (s .pre .1) (c .then-part .ensures)), tt)
 
-  statement-ok-sub-part-ok-3 : statement-ok-lts.Need-sub-part-ok-3 statement-ok-uses statement-ok-at statement-ok.Post
-  statement-ok-sub-part-ok-3 c = omega (arith, length-if (c .before .before .before .before .before .before .before .before .before .before .args .s .now) (omega arith))
-
-  statement-ok-part-part-ok-start-2 : statement-ok-lts.Need-part-part-ok-start-2 statement-ok-uses statement-ok-at statement-ok.Post
-  statement-ok-part-part-ok-start-2 c = omega (arith, length-if (c .before .before .before .before .before .before .before .before .before .before .args .s .now) (omega arith))
+  statement-ok-part-ok-requires-2 : statement-ok-lts.Need-part-ok-requires-2 statement-ok-uses statement-ok-at statement-ok.Post
+  statement-ok-part-ok-requires-2 c κs =
+      let k = c .before .before .before .before .before .before .before in
+      let s = k .before .before .before .before .before in
+      (omega (arith, parts-fall (k .front .given .0 .0 .thens) (k .front .given .0 .0 .elses) (s .args .part .now) (c .else-part .result .now) (s .pre .1) (c .else-part .ensures)), tt)
 
   statement-ok-returns-3 : statement-ok-lts.Need-returns-3 statement-ok-uses statement-ok-at statement-ok.Post
   statement-ok-returns-3 c =
-      let a = c .before .before .before .before .before .args in
-      c .do-ok .ensures ∙ sym (right-do (a .depth) (a .classes) (a .states) (a .g .now) (a .s .now) (omega arith))
+      c .do-ok .ensures ∙ sym (right-do _ _ _ _ _ _ _ (sym (c .before .enum-told .given .1) ∙ c .before .before .before .statement-record .ensures))
 
   statement-ok-returns-4 : statement-ok-lts.Need-returns-4 statement-ok-uses statement-ok-at statement-ok.Post
   statement-ok-returns-4 c =
-      let a = c .before .before .before .before .before .args in
-      c .move-ok .ensures ∙ sym (right-move (a .depth) (a .classes) (a .states) (a .g .now) (a .s .now) (omega arith))
+      c .move-ok .ensures ∙ sym (right-move _ _ _ _ _ _ (sym (c .before .enum-told2 .given .1) ∙ c .before .before .before .statement-record .ensures))
 
   statement-ok-returns-5 : statement-ok-lts.Need-returns-5 statement-ok-uses statement-ok-at statement-ok.Post
   statement-ok-returns-5 c =
-      let a = c .before .before .before .before .before .before .before .before .before .before .before .before .before .before .args in
-      right-if (a .depth) (a .classes) (a .states) (a .g .now) (a .s .now) (c .before .before .before .before .before .before .u16-at .result * 8 + 8) _ _ _ _ (omega arith) (omega arith) (c .before .before .before .before .before .before .before .if2 .left) (c .before .before .before .before .before .before .before .before .before .before .before .before .before .before .pre .1) (omega arith) (c .before .u16-at2 .ensures .0) (c .guard-ok .ensures) (c .before .before .before .before .part-ok .ensures) (c .before .before .part-ok2 .ensures)
+      let y = c .before .before in
+      let x = y .before .before in
+      let d = x .before .before in
+      let k = d .before .before .before .before in
+      right-if _ _ _ _ _ _ (sym (k .front .given .1) ∙ k .before .before .statement-record .ensures) _ _ _ _ _ (omega arith) (d .if2 .left) (x .before .then-part .ensures) (y .before .else-part .ensures) (c .guard-ok .ensures) (x .part-ok .ensures) (y .part-ok2 .ensures)
 
   statement-ok-returns-6 : statement-ok-lts.Need-returns-6 statement-ok-uses statement-ok-at statement-ok.Post
   statement-ok-returns-6 c =
-      let a = c .before .before .before .before .args in
-      sym (right-unknown (a .depth) (a .classes) (a .states) (a .g .now) (a .s .now) (λ k. c .match .rest .0 .0 .1 (omega arith)) (λ k. c .match .rest .0 .1 (omega arith)) (λ k. c .match .rest .1 (omega arith)))
+      let r = c .before .before in
+      sym (right-unknown _ _ _ _ _ (sym (c .enum-told3 .given .1) ∙ r .statement-record .ensures) (r .before .before .before .pre .1))
 
 pub +part-ok+statement-ok-spec : {M : Type 1} → statement M
 +part-ok+statement-ok-spec =
     close μ-part-ok μ-statement-ok
-    (λ t. part-ok-lts.spec (part-ok-uses t) (part-ok-at t) part-ok.Post (part-ok-returns t) (λ c κs. search needs) (λ c. search needs) (λ c. search needs) (part-ok-returns-2 t) (λ c. search needs) (λ c. search needs) (λ c. search needs) (part-ok-statement-ok-requires t) (part-ok-returns-3 t) (λ c. search needs) (λ c. search needs) (λ c. search needs) (λ c κs. search needs) (part-ok-returns-4 t))
-    (λ t. statement-ok-lts.spec (statement-ok-uses t) (statement-ok-at t) statement-ok.Post (λ c κs. search needs) (λ c κs. search needs) (λ c κs. search needs) (λ c κs. search needs) (statement-ok-returns t) (statement-ok-returns-2 t) (λ c κs. search needs) (λ c. search needs) (λ c. search needs) (λ c. search needs) (λ c. search needs) (statement-ok-part-part-ok-end t) (λ c. search needs) (statement-ok-part-ok-requires t) (statement-ok-sub-part-ok-3 t) (statement-ok-part-part-ok-start-2 t) (λ c. search needs) (λ c. search needs) (λ c κs. search needs) (λ c κs. search needs) (λ c κs. search needs) (statement-ok-returns-3 t) (statement-ok-returns-4 t) (statement-ok-returns-5 t) (statement-ok-returns-6 t))
+    (λ t. part-ok-lts.spec (part-ok-uses t) (part-ok-at t) part-ok.Post (part-ok-returns t) (λ c κs. search needs) (λ c κs. search needs) (part-ok-returns-2 t) (λ c κs. search needs) (part-ok-returns-3 t) (λ c κs. search needs) (part-ok-part-ok-requires t) (part-ok-returns-4 t))
+    (λ t. statement-ok-lts.spec (statement-ok-uses t) (statement-ok-at t) statement-ok.Post (λ c κs. search needs) (λ c. search needs) (λ c κs. search needs) (λ c. search needs) (λ c κs. search needs) (λ c. search needs) (λ c κs. search needs) (statement-ok-returns t) (statement-ok-returns-2 t) (λ c κs. search needs) (λ c. search needs) (statement-ok-part-ok-requires t) (λ c κs. search needs) (λ c. search needs) (statement-ok-part-ok-requires-2 t) (λ c. search needs) (λ c κs. search needs) (λ c. search needs) (statement-ok-returns-3 t) (statement-ok-returns-4 t) (statement-ok-returns-5 t) (statement-ok-returns-6 t))

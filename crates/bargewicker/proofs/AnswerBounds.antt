@@ -3,22 +3,19 @@
 use Prim.Native.Nat.{ℕ, zero, suc, _+_, _*_, _<_, _≤_}
 use native.Mathlib.Omega.{arith}
 use mathlib.Core.Path.{_≡_, refl, sym, _∙_, ap, subst}
-use mathlib.Core.Bool.{Bool, true, false}
-use mathlib.Core.List.{List, [], _∷_, _++_, List·Memᴰ, List·Memᴰ·head, List·Memᴰ·tail}
+use mathlib.Core.Bool.{true}
+use mathlib.Core.List.{List}
 use mathlib.Core.Option.{Option, none, some}
-use lib.Dec.{eqb}
 use lib.ListN.{length, getD}
-use borrow.Author.Tests.{ltb-true}
-use Rattle.model.specs.Words.{choose, maybe}
-use Rattle.model.specs.Tree.{Child, Referrer, move-to, run, stay, When, Class, Statement, send, go-to, branch, Part, end, _then_, Action, no-action, atom, any-in, everyone}
-use Rattle.model.specs.Node.{own-states, state-of, Probed, nothing, found, probe, by-do, turn, turn-for, stops, next, command-of}
+use Rattle.model.specs.Words.{maybe}
+use Rattle.model.specs.Tree.{Child, Referrer, move-to, run, stay, When, Class, Part, Action, no-action, atom, any-in, everyone}
+use Rattle.model.specs.Node.{own-states, state-of, found, probe, by-do, turn, stops, next, command-of}
 use Rattle.model.specs.Moves.{after}
-use Rattle.model.specs.Guards.{holds}
-use Rattle.model.specs.Commands.{Handling, handled, ignored, handled-by, command, run-one, run-part, clause-for}
-use Rattle.model.specs.Sound.{ReferrerRight, statement-within, part-within}
-use Rattle.model.proofs.Words.{clash, and-left, and-right}
+use Rattle.model.specs.Commands.{Handling, handled, ignored, handled-by, command, run-part, clause-for}
+use Rattle.model.specs.Sound.{ReferrerRight, part-within}
 use Rattle.model.proofs.Moves.{after-within}
-use Rattle.model.proofs.NodeLaws.{getD-mem, probe-found, next-within}
+use Rattle.model.proofs.NodeLaws.{getD-mem, probe-found, turn-runs, next-within}
+use Rattle.model.proofs.CommandLaws.{part-size, part-moves, clause-listed}
 use Rattle.model.specs.Words.{Bytes}
 use Rattle.bodies.specs.Clauses.{in-eights, referrer-of}
 use Rattle.bodies.proofs.Bytes.{u16-below}
@@ -26,11 +23,11 @@ use Rattle.sheet.specs.Contents.{bodies}
 use Rattle.sheet.specs.Rules.{Accepted}
 use Rattle.sheet.specs.Reading.{class-of, when-in, action-in}
 use Rattle.sheet.proofs.Contents.{body-bytes, counted}
-use Rattle.sheet.proofs.Reading.{own-states-in, whens-in, mem-whens, mem-actions}
+use Rattle.sheet.proofs.Reading.{own-states-in, whens-in, mem-whens, mem-actions, body-sized}
 use Rattle.sheet.proofs.Rules.{accepted-right}
 use Rattle.sheet.proofs.Sound.{sound}
+use Rattle.children.proofs.ChildListLaws.{bytes-most}
 use Rattle.bargewicker.specs.Questions.{bytes-of-handling}
-use Rattle.bw.proofs.SentCount.{part-size, body-sized, bytes-most}
 
 -- the state of a handling
 abbrev pub state-left : Handling → ℕ
@@ -48,48 +45,6 @@ unfolding referrer-of
 referrer-small zero t l = l
 referrer-small (suc zero) t l = l
 referrer-small (suc (suc n)) t l = tt
-
--- a turn that stops on a DO is by a clause that runs an action, whose command it names
-turn-runs : (c : Class) (q m : ℕ) (p : Probed) → turn-for c q p ≡ stops (by-do m) → (i : ℕ) × (a : ℕ) × (p ≡ found i (run a)) × (command-of c q a ≡ m)
-unfolding turn-for
-turn-runs c q m nothing e = absurd (clash (cc))
-turn-runs c q m (found i (move-to t)) e = absurd (clash (cc))
-turn-runs c q m (found i (run a)) e = (i, a, refl, cc)
-turn-runs c q m (found i stay) e = absurd (clash (cc))
-
--- statements whose moves lead below S move to a state below S
-mutual
-  unfolding statement-within part-within run-one run-part
-
-  one-moves : (s : Statement) (ks : List Child) (S : ℕ) → statement-within s S ≡ true → (t : ℕ) → run-one s ks .moved ≡ some t → t < S
-  one-moves (send m p) ks S h t e = absurd (clash (cc))
-  one-moves (go-to u) ks S h t e = let z : u ≡ t = cc in let l = ltb-true u S h in omega arith
-  one-moves (branch g a b) ks S h t e =
-      go (holds g ks) e (λ x. part-moves a ks S (and-left (part-within a S) (part-within b S) h) t x) (λ x. part-moves b ks S (and-right (part-within a S) (part-within b S) h) t x)
-    where
-      go : (x : Bool) → choose x (λ _. run-part a ks) (λ _. run-part b ks) .moved ≡ some t → (run-part a ks .moved ≡ some t → t < S) → (run-part b ks .moved ≡ some t → t < S) → t < S
-      go true e f g = f e
-      go false e f g = g e
-
-  part-moves : (p : Part) (ks : List Child) (S : ℕ) → part-within p S ≡ true → (t : ℕ) → run-part p ks .moved ≡ some t → t < S
-  part-moves end ks S h t e = absurd (clash (cc))
-  part-moves (s then p) ks S h t e =
-      go (run-one s ks .moved) e (λ x. one-moves s ks S (and-left (statement-within s S) (part-within p S) h) t x) (λ x. part-moves p ks S (and-right (statement-within s S) (part-within p S) h) t x)
-    where
-      go : (o : Option ℕ) → maybe o (λ _. record { sent = run-one s ks .sent ++ run-part p ks .sent; moved = run-part p ks .moved }) (λ _. run-one s ks) .moved ≡ some t
-          → (run-one s ks .moved ≡ some t → t < S) → (run-part p ks .moved ≡ some t → t < S) → t < S
-      go none e f g = g e
-      go (some u) e f g = f e
-
--- the clause for a command is one of the state's
-clause-listed : (m : ℕ) (xs : List Action) (p : Part) → clause-for m xs ≡ some p → (a : Action) × List·Memᴰ a xs × (a .body ≡ p)
-unfolding clause-for
-clause-listed m [] p e = absurd (clash (cc))
-clause-listed m (a ∷ rest) p e = go (eqb (a .command) m) e (clause-listed m rest p)
-  where
-    go : (x : Bool) → choose x (λ _. some (a .body)) (λ _. clause-for m rest) ≡ some p → (clause-for m rest ≡ some p → (b : Action) × List·Memᴰ b rest × (b .body ≡ p)) → (b : Action) × List·Memᴰ b (a ∷ rest) × (b .body ≡ p)
-    go true e r = (a, List·Memᴰ·head refl, cc)
-    go false e r = let (b, n, f) = r e in (b, List·Memᴰ·tail n, f)
 
 module _ (b : List ℕ) (h : Bytes b) (a : Accepted b) (ks : List Child) where
   abbrev c : Class
