@@ -16,6 +16,9 @@ use Rattle.model.specs.Tree.{Child, Part, State}
 use Rattle.model.specs.Node.{state-of}
 use Rattle.model.specs.Commands as Tree
 use Rattle.model.specs.declared.OwnState.{OwnState}
+use Rattle.model.specs.declared.Refusal.the-variants.{Room}
+use Rattle.model.specs.declared.Handling.the-variants.{Handled}
+use Rattle.model.specs.declared.CommandAnswer.the-variants.{Given, Refused}
 use Rattle.model.proofs.Words.{clash, and-right, lt-or-le, each-elim, least-some, least-none, least-told}
 use Rattle.model.proofs.CommandLaws.{part-size}
 use Rattle.sheet.specs.Contents.{body, bodies}
@@ -32,10 +35,10 @@ use Rattle.sheet.proofs.Contents.{counted}
 use Rattle.sheet.proofs.Reading.{state-of-in, state-of-past}
 use Rattle.sheet.proofs.Rules.{Right}
 use Rattle.children.specs.NameSets.{Crewed}
-use Rattle.commands.specs.Commands.{moved-as, Does, Room, first-action-for, HandlesAs}
+use Rattle.commands.specs.Commands.{moved-as, Does, Room as RoomFor, first-action-for}
 use Rattle.commands.specs.declared.Moved.{Moved}
 use Rattle.commands.specs.declared.Ran.{Ran}
-use Rattle.commands.specs.declared.Handling.the-variants.{Handled, Short}
+use Rattle.commands.proofs.HandlingLaws.{HandledSo, handled-so, short-so}
 use Rattle.commands.proofs.ClauseLaws.{clause-none, clause-found}
 
 -- a record past the last counts nothing
@@ -132,7 +135,7 @@ module _ (b : List ℕ) (q m a : ℕ) (C : Chosen b q m a) (guards actions state
   statements-read = rw (ep, eg, ea, es) (C .reads)
 
   -- and what they send to a list of at most 4,096 children can be counted
-  pub statements-room : (sets list : List ℕ) → Crewed sets (children-of list) → length list ≤ 8192 → Room sets guards list p 0
+  pub statements-room : (sets list : List ℕ) → Crewed sets (children-of list) → length list ≤ 8192 → RoomFor sets guards list p 0
   statements-room sets list c l =
       record {
         crewed = c;
@@ -162,21 +165,20 @@ module _ (b : List ℕ) (q m a : ℕ) (C : Chosen b q m a) (list e e′ out out�
   abbrev answer : Tree.Handling
   answer = Tree.command (class-of b) (children-of list) q m
 
-  abbrev bytes : List ℕ
-  bytes = sent-bytes (Tree.run-part (C .part) (children-of list) .sent)
+  abbrev ran : Tree.Ran
+  ran = Tree.run-part (C .part) (children-of list)
 
-  pub short-told : length out′ < r .at → HandlesAs answer q out out′ Short
+  pub short-told : length out′ < r .at → HandledSo answer out out′ (Refused Room)
   short-told l =
-      let ran = Tree.run-part (C .part) (children-of list) in
-      (ran .sent, maybe (ran .moved) (λ _. q) (λ t. t), C .handled (children-of list), omega (arith, D .writes .place, ap length same), same)
+      short-so answer (ran .sent) (maybe (ran .moved) (λ _. q) (λ t. t)) (C .handled (children-of list)) out out′ (omega (arith, D .writes .place, ap length same)) same
 
-  pub handled-told : (last : List ℕ) (w : Ran) (s : OwnState) → r .at ≤ length out′ → Does (Tree.run-part (C .part) (children-of list)) (take (r .at - 0) out′) last 0 w
-      → maybe (moved-as (w .moved)) (λ _. q) (λ t. t) ≡ s .0 → HandlesAs answer q out (last ++ drop (r .at - 0) out′) (Handled s (w .at))
+  pub handled-told : (last : List ℕ) (w : Ran) (s : OwnState) → r .at ≤ length out′ → Does ran (take (r .at - 0) out′) last 0 w → maybe (moved-as (w .moved)) (λ _. q) (λ t. t) ≡ s .0
+      → HandledSo answer out (last ++ drop (r .at - 0) out′) (Given (Handled s (w .at)))
   handled-told last w s l E em =
-      let ran = Tree.run-part (C .part) (children-of list) in
+      let bytes = sent-bytes (ran .sent) in
       let n : w .at ≡ length bytes = omega (arith, E .writes .place) in
       let f : r .at - 0 ≡ w .at = omega (arith, D .writes .place) in
       let k : w .at ≤ length out = omega (arith, ap length same) in
       let h : answer ≡ Tree.handled (ran .sent) (s .0) = C .handled (children-of list) ∙ ap (Tree.handled (ran .sent)) (ap (λ (o : Option ℕ). maybe o (λ _. q) (λ t. t)) (sym (E .moved)) ∙ em) in
       let c : last ≡ bytes = E .writes .buffer ∙ sets-all (take (r .at - 0) out′) bytes (omega (arith, length-take (r .at - 0) out′)) in
-      (ran .sent, h, n, k, rw (c, f, same))
+      handled-so answer (ran .sent) (s .0) h out (last ++ drop (r .at - 0) out′) s refl (w .at) n k (rw (c, f, same))

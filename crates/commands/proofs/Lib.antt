@@ -2,3 +2,4 @@ pub mod SendLaws
 pub mod RunLaws
 pub mod ClauseLaws
 pub mod HandleLaws
+pub mod HandlingLaws

@@ -3,15 +3,18 @@
 use Prim.Native.Nat.{ℕ, _+_, _<_, _≤_}
 use mathlib.Core.Path.{_≡_}
 use mathlib.Core.Bool.{Bool}
-use mathlib.Core.List.{List, _++_}
+use mathlib.Core.List.{List}
 use mathlib.Core.Option.{Option, none, some}
 use lib.Dec.{eqb}
-use lib.ListN.{length, drop}
+use lib.ListN.{length}
 use lib.Seq.{sets}
 use Rattle.model.specs.Words.{maybe, least}
 use Rattle.model.specs.Tree.{Pattern, Statement, Part, _then_}
 use Rattle.model.specs.Guards.{concerns}
 use Rattle.model.specs.Commands as Tree
+use Rattle.model.specs.Answers.{command-numbers}
+use Rattle.model.specs.Replies.{Answered}
+use Rattle.model.specs.declared.CommandAnswer.{CommandAnswer}
 use Rattle.sheet.specs.Contents.{body}
 use Rattle.bodies.specs.Clauses.{first-action, action-count, action-command}
 use Rattle.bodies.specs.PartChecks.{Reads}
@@ -21,8 +24,7 @@ use Rattle.children.specs.NameSets.{Crewed}
 use Rattle.commands.specs.declared.Moved.{Moved}
 use Rattle.commands.specs.declared.Moved.the-variants.{Not, To}
 use Rattle.commands.specs.declared.Ran.{Ran}
-use Rattle.commands.specs.declared.Handling.{Handling}
-use Rattle.commands.specs.declared.Handling.the-variants.{Ignored, Handled, Short}
+use Rattle.commands.specs.Handling.{reply-handling, handling-values}
 
 -- a child of class i is one of the pattern's, whatever its name
 unfoldable pub concerned : Pattern → ℕ → Bool
@@ -67,11 +69,7 @@ unfoldable pub first-action-for : List ℕ → ℕ → ℕ → ℕ
 first-action-for b q m =
     maybe (least (action-count (body b 1) q) (λ i. eqb (action-command (body b 4) (first-action (body b 1) q + i)) m)) (λ _. action-count (body b 1) q) (λ i. i)
 
--- the answer is the tree's: ignored, or handled with the bytes in the buffer, or handled and too long for it
-abbrev pub HandlesAs : Tree.Handling → ℕ → List ℕ → List ℕ → Handling → Type 0
-HandlesAs h q before after Ignored = (h ≡ Tree.ignored q) × (after ≡ before)
-HandlesAs h q before after (Handled s n) = (sent : List Tree.Sent) × (h ≡ Tree.handled sent (s .0)) × (n ≡ length (sent-bytes sent)) × (n ≤ length before) × (after ≡ sent-bytes sent ++ drop n before)
-HandlesAs h q before after Short = (sent : List Tree.Sent) × (s : ℕ) × (h ≡ Tree.handled sent s) × (length before < length (sent-bytes sent)) × (after ≡ before)
-
-abbrev pub Handles : List ℕ → List ℕ → ℕ → ℕ → List ℕ → List ℕ → Handling → Type 0
-Handles b list q m before after r = HandlesAs (Tree.command (class-of b) (children-of list) q m) q before after r
+-- the answer and the buffer are those of the tree's handling
+abbrev pub Handles : List ℕ → List ℕ → ℕ → ℕ → List ℕ → List ℕ → CommandAnswer → Type 0
+Handles b list q m before after r =
+    Answered handling-values (reply-handling (Tree.command (class-of b) (children-of list) q m) before) before (command-numbers r) after

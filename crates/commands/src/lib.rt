@@ -16,7 +16,10 @@ use bodies::statements::statement_record;
 use bodies::statements::statements_of;
 use bodies::statements::then_part;
 use model::ChildClass;
+use model::CommandAnswer;
+use model::Handling;
 use model::OwnState;
+use model::Refusal;
 use node::values::guard_true;
 use sheet::judging::Places;
 ghost use mathlib.Core.Path.{_≡_};
@@ -43,13 +46,6 @@ pub enum Moved {
 pub struct Ran {
     pub at: usize,
     pub moved: Moved,
-}
-
-// What handling a command comes to; Short: the buffer has no room for what is sent, and nothing is written.
-pub enum Handling {
-    Ignored,
-    Handled(OwnState, usize),
-    Short,
 }
 
 // A byte at a place of the buffer; past its end nothing is stored.
@@ -176,7 +172,7 @@ fn clause_for(sheet: &[u8], p: Places, q: OwnState, command: u8) -> usize
     }
 }
 
-// Handles a command in state q: where its statements send more than the buffer holds, nothing is written.
+// Handles a command in state q: 15 where its statements send more than the buffer holds, and then nothing is written.
 pub fn handle(
     sheet: &[u8],
     p: Places,
@@ -185,7 +181,7 @@ pub fn handle(
     q: OwnState,
     command: u8,
     out: &mut [u8],
-) -> Handling
+) -> CommandAnswer
     requires { ⌜ Stands (now sheet) p × (Crewed sets (children-of (now list)) × (length (now list) ≤ 8192)) ⌝ }
     ensures { λ r. ⌜ Handles (now (sheet .entry)) (now (list .entry)) (q .0) command (now (out .entry)) (now (out .exit)) r ⌝ }
 {
@@ -194,7 +190,7 @@ pub fn handle(
     let n = clauses.count;
     let hit = clause_for(sheet, p, q, command);
     if hit == n {
-        return Handling::Ignored;
+        return CommandAnswer::Given(Handling::Ignored(q));
     }
     let guards = body_of(sheet, p, GUARDS);
     let part = statements_of(
@@ -205,13 +201,13 @@ pub fn handle(
     let counted = run_list(guards, sets, list, part, &mut out[0..0], 0);
     let needed = counted.at;
     if out.len() < needed {
-        return Handling::Short;
+        return CommandAnswer::Refused(Refusal::Room);
     }
     let ran = run_list(guards, sets, list, part, &mut out[0..needed], 0);
     let written = ran.at;
     let moved = ran.moved;
     match moved {
-        Moved::To(t) => Handling::Handled(t, written),
-        Moved::Not => Handling::Handled(q, written),
+        Moved::To(t) => CommandAnswer::Given(Handling::Handled(t, written)),
+        Moved::Not => CommandAnswer::Given(Handling::Handled(q, written)),
     }
 }

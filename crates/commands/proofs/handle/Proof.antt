@@ -7,6 +7,7 @@ use Rattle.bodies.specs.PartChecks.{Reads}
 use Rattle.sheet.proofs.Rules.{accepted-right}
 use Rattle.commands.specs.Commands.{Room}
 use Rattle.commands.proofs.HandleLaws.{Chosen, ignored-told, chosen-told, statements-read, statements-room, none-before, moved-told, short-told, handled-told}
+use Rattle.commands.proofs.HandlingLaws.{ignored-so}
 use borrow.Author.Needs.{needs}
 use Rattle.commands.proofs.handle.Statement.{statement}
 use Rattle.commands.proofs.handle.Tie as tie
@@ -38,7 +39,7 @@ part-room c =
 returns : tie.Need-returns
 returns c =
     let s = c .before .before .before .before .before .before in
-    (ignored-told (s .args .sheet .now) (accepted-right _ (s .pre .0 .accepted)) _ _ _ _ _ (c .before .before .clauses-of .ensures .count-is) (c .before .clause-for .ensures) (c .if1 .taken), refl)
+    ignored-so _ (s .args .q) (ignored-told (s .args .sheet .now) (accepted-right _ (s .pre .0 .accepted)) _ _ _ _ _ (c .before .before .clauses-of .ensures .count-is) (c .before .clause-for .ensures) (c .if1 .taken)) _ _ refl
 
 add-statements-of : tie.Need-add-statements-of
 add-statements-of c = omega (arith, picked (c .before .before .before) .few)
