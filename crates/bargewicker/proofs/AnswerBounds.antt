@@ -27,7 +27,7 @@ use Rattle.sheet.proofs.Reading.{own-states-in, whens-in, mem-whens, mem-action
 use Rattle.sheet.proofs.Rules.{accepted-right}
 use Rattle.sheet.proofs.Sound.{sound}
 use Rattle.children.proofs.ChildListLaws.{bytes-most}
-use Rattle.bargewicker.specs.Questions.{bytes-of-handling}
+use Rattle.commands.specs.Handling.{bytes-of-handling}
 
 -- the state of a handling
 abbrev pub state-left : Handling → ℕ

@@ -33,13 +33,14 @@ use Rattle.sheet.specs.Reading.{class-of}
 use Rattle.sheet.proofs.Sound.{sound}
 use Rattle.children.specs.ChildList.{children-of, sent-bytes}
 use Rattle.children.proofs.ChildListLaws.{three-each}
+use Rattle.commands.proofs.HandlingLaws.{HandledSo, ignored-so, handled-so, short-so}
 use Rattle.bargewicker.specs.Questions.{Answer, probed, phased, probe-in, phase-from, command-in, placed, reply}
 use Rattle.bargewicker.specs.Numbers.{values}
 use Rattle.bargewicker.specs.Placing.{placed-refusal}
 use Rattle.bargewicker.specs.Promises.{Promised}
 use Rattle.bargewicker.specs.Demands.{Asked, no-clause, clause, First, NoneTrue, ProbedRight, ProbeRight, Settles, PhasedRight, PhaseRight, CommandRight}
 use Rattle.bargewicker.proofs.QuestionLaws.{is-placed}
-use Rattle.bargewicker.proofs.CommandLaws.{answer-ignored, answer-handled, answer-short}
+use Rattle.bargewicker.proofs.PromiseLaws.{commanded-so}
 use Rattle.bargewicker.proofs.Unique.{unique}
 
 -- an own state's number as the code has it
@@ -148,10 +149,10 @@ module _ (b l : List ℕ) (q : ℕ) (a : Asked b l q) where
 
   module _ (m : ℕ) (out : List ℕ) (small : m ≤ 63) (r : CommandAnswer) (final : List ℕ) (h : Promised (command-in b l q m out) r final) where
     -- the answer and the buffer are those that the rules give
-    told-command : (s : CommandAnswer) (after : List ℕ) → Promised (command-in b l q m out) s after
+    told-command : (s : CommandAnswer) (after : List ℕ) → HandledSo (command c ks q m) out after s
         → (final ≡ after → CommandRight c ks q m out final s) → CommandRight c ks q m out final r
     told-command s after g f =
-        let (e, k) = unique (command-in b l q m out) r s final after h g in
+        let (e, k) = unique (command-in b l q m out) r s final after h (commanded-so b l q fits m out small s after g) in
         subst (CommandRight c ks q m out final) (sym e) (f k)
 
     pub command-right : CommandRight c ks q m out final r
@@ -160,7 +161,7 @@ module _ (b l : List ℕ) (q : ℕ) (a : Asked b l q) where
       where
         go : (o : Option Part) → clause-for m (state-of c q .actions) ≡ o → CommandRight c ks q m out final r
         go none e =
-            told-command (C.Given (Ignored (own q))) out (answer-ignored b l q m out fits small (own q) (command-none c ks q m e) out refl)
+            told-command (C.Given (Ignored (own q))) out (ignored-so (command c ks q m) (own q) (command-none c ks q m e) out out refl)
             λ k. (e, refl, k)
         go (some p) e = by (lt-or-le (length out) (3 * length sent))
           where
@@ -176,9 +177,9 @@ module _ (b l : List ℕ) (q : ℕ) (a : Asked b l q) where
             by : (length out < 3 * length sent) ⊎ (3 * length sent ≤ length out) → CommandRight c ks q m out final r
             by (inl short) =
                 let n = three-each sent in
-                told-command (C.Refused Room) out (answer-short b l q m out fits small sent to runs (let w : length out < length (sent-bytes sent) = omega arith in w) out refl)
+                told-command (C.Refused Room) out (short-so (command c ks q m) sent to runs out out (let w : length out < length (sent-bytes sent) = omega arith in w) refl)
                 λ k. (refl, p, e, short, k)
             by (inr room) =
                 told-command (C.Given (Handled (own to) (3 * length sent))) (written (sent-bytes sent) out)
-                (answer-handled b l q m out fits small sent to runs (own to) refl (3 * length sent) (sym (three-each sent)) room (written (sent-bytes sent) out) (ap (λ (n : ℕ). sent-bytes sent ++ drop n out) (three-each sent)))
+                (handled-so (command c ks q m) sent to runs out (written (sent-bytes sent) out) (own to) refl (3 * length sent) (sym (three-each sent)) room (ap (λ (n : ℕ). sent-bytes sent ++ drop n out) (three-each sent)))
                 λ k. (p, e, record { state = refl; number = refl; room = room; buffer = k })

@@ -2,7 +2,6 @@ pub mod Computing
 pub mod QuestionLaws
 pub mod PlacingLaws
 pub mod PromiseLaws
-pub mod CommandLaws
 pub mod TableLaws
 pub mod Cases
 pub mod Unique

@@ -1,31 +1,39 @@
 -- Laws about specs/Promises.antt: the promise of each question is met by a refusal, and by the answer that its reply gives.
 -- Assumes nothing.
-use Prim.Native.Nat.{ℕ}
+use Prim.Native.Nat.{ℕ, _<_, _≤_}
 use mathlib.Core.Path.{_≡_, refl, sym, _∙_, ap}
 use mathlib.Core.List.{List, [], _∷_}
 use Rattle.model.specs.Tree.{Class}
 use Rattle.model.specs.Node.{probe, phase}
 use Rattle.model.specs.Refusals.{number-of}
 use Rattle.model.specs.Values.{probed-values, phase-values}
-use Rattle.model.specs.Answers.{probed-as, phase-as, loop-numbers}
+use Rattle.model.specs.Answers.{probed-as, phase-as, command-numbers, loop-numbers}
 use Rattle.model.specs.Replies.{Reply, refuse, give, told-as, Answered}
-use Rattle.model.specs.Node as Tree
+use Rattle.model.specs.Node as Node
+use Rattle.model.specs.Commands as Tree
+use Rattle.model.specs.Commands.{command}
 use Rattle.model.specs.declared.Refusal.{Refusal}
 use Rattle.model.specs.declared.Probed.{Probed}
 use Rattle.model.specs.declared.Phase.{Phase}
 use Rattle.model.specs.declared.JudgeAnswer.the-variants as J
 use Rattle.model.specs.declared.ProbeAnswer.the-variants as P
 use Rattle.model.specs.declared.PhaseAnswer.the-variants as W
+use Rattle.model.specs.declared.Refusal.the-variants.{AskedCommand}
+use Rattle.model.specs.declared.CommandAnswer.{CommandAnswer}
+use Rattle.model.specs.declared.CommandAnswer.the-variants as C
 use Rattle.model.specs.declared.LoopAnswer.{LoopAnswer}
 use Rattle.model.proofs.ReplyLaws.{answered, answered-by, answered-as}
 use Rattle.sheet.specs.Rules.{Accepted}
 use Rattle.sheet.specs.Reading.{class-of}
 use Rattle.sheet.proofs.AskedLaws.{asked}
 use Rattle.children.specs.ChildList.{children-of}
+use Rattle.commands.specs.Handling.{reply-handling, handling-values}
+use Rattle.commands.proofs.HandlingLaws.{HandledSo}
 use Rattle.loops.specs.LoopQuestion.{loops-values, reply-loop}
-use Rattle.bargewicker.specs.Questions.{Question, judge, probe-in, phase-from, command-in, loop-with, Answer, accepted, probed, phased, looped, placed, reply, lent}
+use Rattle.bargewicker.specs.Questions.{Question, judge, probe-in, phase-from, command-in, loop-with, Answer, accepted, probed, phased, commanded, looped, placed, reply-command, reply, lent}
 use Rattle.bargewicker.specs.Numbers.{values}
 use Rattle.bargewicker.specs.Promises.{AnswerTo, refusing, numbers-of, Promised}
+use Rattle.bargewicker.proofs.QuestionLaws.{command-over, command-taken}
 
 -- the numbers of the answer that refuses
 pub refusing-numbers : (q : Question) (x : Refusal) → numbers-of q (refusing q x) ≡ number-of x ∷ []
@@ -50,13 +58,28 @@ module _ (b l : List ℕ) (q : ℕ) (fits : (rest : Class → Reply Answer) → 
   unfolding reply values
   probed-so r e =
       answered-by values (reply (probe-in b l q)) (give (probed (probe (class-of b) (children-of l) q)) []) (fits (λ c. give (probed (probe c (children-of l) q)) [])) []
-      (0 ∷ probed-values (probed-as r)) [] (ap (λ (p : Tree.Probed). 0 ∷ probed-values p) e) refl
+      (0 ∷ probed-values (probed-as r)) [] (ap (λ (p : Node.Probed). 0 ∷ probed-values p) e) refl
 
   pub phased-so : (r : Phase) → phase-as r ≡ phase (class-of b) (children-of l) q → Promised (phase-from b l q) (W.Given r) []
   unfolding reply values
   phased-so r e =
       answered-by values (reply (phase-from b l q)) (give (phased (phase (class-of b) (children-of l) q)) []) (fits (λ c. give (phased (phase c (children-of l) q)) [])) []
-      (0 ∷ phase-values (phase-as r)) [] (ap (λ (p : Tree.Phase). 0 ∷ phase-values p) e) refl
+      (0 ∷ phase-values (phase-as r)) [] (ap (λ (p : Node.Phase). 0 ∷ phase-values p) e) refl
+
+  -- the command, over 63 or handled
+  module _ (m : ℕ) (out : List ℕ) where
+    placed-command : (r : Reply Tree.Handling) → reply-command (class-of b) l q m out ≡ r → reply (command-in b l q m out) ≡ told-as commanded r
+    unfolding reply
+    placed-command r e = fits (λ c. told-as commanded (reply-command c l q m out)) ∙ ap (told-as commanded) e
+
+    pub over-so : 63 < m → (after : List ℕ) → after ≡ out → Promised (command-in b l q m out) (C.Refused AskedCommand) after
+    over-so h after g = refused-so (command-in b l q m out) AskedCommand (placed-command (refuse 12) (command-over (class-of b) l q m out h)) after g
+
+    pub commanded-so : m ≤ 63 → (r : CommandAnswer) (after : List ℕ) → HandledSo (command (class-of b) (children-of l) q m) out after r → Promised (command-in b l q m out) r after
+    unfolding values
+    commanded-so h r after a =
+        rw (placed-command (reply-handling (command (class-of b) (children-of l) q m) out) (command-taken (class-of b) l q m out h))
+        (answered-as commanded handling-values values (λ _. refl) (reply-handling (command (class-of b) (children-of l) q m) out) out (command-numbers r) after a)
 
 -- the loop question's answer on the class of an accepted sheet
 pub looped-so : (b : List ℕ) (present : ℕ) (out : List ℕ) → Accepted b → (r : LoopAnswer) (after : List ℕ)

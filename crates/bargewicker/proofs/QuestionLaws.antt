@@ -6,18 +6,18 @@ use mathlib.Core.Path.{_≡_, refl, sym, _∙_, ap}
 use mathlib.Core.Bool.{Bool, true, false}
 use mathlib.Core.List.{List}
 use lib.Dec.{ltb}
-use lib.ListN.{length}
 use borrow.Author.Tests.{le-leb, lt-leb}
 use Rattle.model.specs.Words.{choose}
 use Rattle.model.specs.Tree.{Class}
 use Rattle.model.specs.Node.{own-states}
-use Rattle.model.specs.Commands.{Handling, command}
-use Rattle.model.specs.Replies.{Reply, refuse, give}
+use Rattle.model.specs.Commands.{command}
+use Rattle.model.specs.Replies.{Reply, refuse}
 use Rattle.sheet.specs.Rules.{Accepted}
 use Rattle.sheet.specs.Reading.{class-of}
 use Rattle.sheet.proofs.AskedLaws.{asked}
 use Rattle.children.specs.ChildList.{children-of, list-right}
-use Rattle.bargewicker.specs.Questions.{placed, reply-command, bytes-of-handling}
+use Rattle.commands.specs.Handling.{reply-handling}
+use Rattle.bargewicker.specs.Questions.{placed, reply-command}
 use Rattle.bargewicker.specs.Placing.{placed-refusal}
 
 -- the child list and the asked state: 10, 11, or neither
@@ -40,16 +40,12 @@ module _ {A : Type 0} (b : List ℕ) (a : Accepted b) (l : List ℕ) (q : ℕ) (
       go true false e = absurd (omega arith)
       go false u e = absurd (omega arith)
 
--- the command: 12, then 15, then what the tree does
+-- the command: 12, or what its handling replies
 module _ (c : Class) (l : List ℕ) (q m : ℕ) (out : List ℕ) where
   pub command-over : 63 < m → reply-command c l q m out ≡ refuse 12
   unfolding reply-command
   command-over h = rw (lt-leb m 63 h)
 
-  pub command-short : m ≤ 63 → (h : Handling) → command c (children-of l) q m ≡ h → length out < length (bytes-of-handling h) → reply-command c l q m out ≡ refuse 15
+  pub command-taken : m ≤ 63 → reply-command c l q m out ≡ reply-handling (command c (children-of l) q m) out
   unfolding reply-command
-  command-short k h e r = rw (le-leb m 63 k, e, lt-leb (length (bytes-of-handling h)) (length out) r)
-
-  pub command-given : m ≤ 63 → (h : Handling) → command c (children-of l) q m ≡ h → length (bytes-of-handling h) ≤ length out → reply-command c l q m out ≡ give h (bytes-of-handling h)
-  unfolding reply-command
-  command-given k h e r = rw (le-leb m 63 k, e, le-leb (length (bytes-of-handling h)) (length out) r)
+  command-taken h = rw (le-leb m 63 h)

@@ -21,8 +21,9 @@ use Rattle.children.specs.ChildList.{children-of, list-right}
 use Rattle.children.proofs.ChildListLaws.{three-each}
 use Rattle.configurations.specs.Configurations.{name-count}
 use Rattle.configurations.specs.LoopAnswer.{Loops, loop-answer}
+use Rattle.commands.specs.Handling.{bytes-of-handling, reply-handling}
 use Rattle.loops.specs.LoopQuestion.{present-right, bytes-of-loops, reply-loop}
-use Rattle.bargewicker.specs.Questions.{Question, judge, probe-in, phase-from, command-in, loop-with, commanded, looped, placed, reply, reply-command, bytes-of-handling}
+use Rattle.bargewicker.specs.Questions.{Question, judge, probe-in, phase-from, command-in, loop-with, commanded, looped, placed, reply, reply-command}
 use Rattle.bargewicker.specs.Table.{Check, rule, first-failed, body-checks, sheet-checks, place-checks, sent-by, command-checks, loop-checks, table}
 
 -- the number of a refusal, 0 of an answer
@@ -91,7 +92,7 @@ room (handled sent q) = three-each sent
 room (ignored q) = refl
 
 command-failed : (c : Class) (l : List ℕ) (q m : ℕ) (out : List ℕ) → refused-number (reply-command c l q m out) ≡ first-failed (command-checks c l q m out)
-unfolding reply-command command-checks first-failed
+unfolding reply-command reply-handling command-checks first-failed
 command-failed c l q m out =
     let h : Handling = command c (children-of l) q m in
     go (leb m 63) (leb (length (bytes-of-handling h)) (length out)) h (bytes-of-handling h)

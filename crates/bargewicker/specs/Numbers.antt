@@ -1,18 +1,12 @@
 -- The paper's numbers of the rules' answer to a question: 0 for no refusal, then which case, then its values.
 -- Assumes nothing.
 use Prim.Native.Nat.{ℕ}
-use mathlib.Core.List.{List, [], _∷_}
-use lib.ListN.{length}
-use Rattle.model.specs.Commands.{Handling, handled, ignored}
+use mathlib.Core.List.{List, []}
 use Rattle.model.specs.Values.{probed-values, phase-values}
 use Rattle.model.specs.Replies.{numbers}
+use Rattle.commands.specs.Handling.{handling-values}
 use Rattle.loops.specs.LoopQuestion.{loops-values}
-use Rattle.bargewicker.specs.Questions.{Question, Answer, accepted, probed, phased, commanded, looped, bytes-of-handling, reply}
-
--- 0 ignored, 1 handled: the state, the number of bytes written
-unfoldable pub handling-values : Handling → List ℕ
-handling-values (ignored q) = 0 ∷ q ∷ 0 ∷ []
-handling-values (handled sent q) = 1 ∷ q ∷ length (bytes-of-handling (handled sent q)) ∷ []
+use Rattle.bargewicker.specs.Questions.{Question, Answer, accepted, probed, phased, commanded, looped, reply}
 
 unfoldable pub values : Answer → List ℕ
 values accepted = []

@@ -3,13 +3,13 @@
 use Prim.Native.Nat.{ℕ}
 use mathlib.Core.List.{List, []}
 use lib.Dec.{leb, ltb}
-use lib.ListN.{length}
 use Rattle.model.specs.Tree.{Class}
 use Rattle.model.specs.Node.{own-states, Probed, probe, Phase, phase}
-use Rattle.model.specs.Commands.{Handling, handled, ignored, command}
+use Rattle.model.specs.Commands.{Handling, command}
 use Rattle.model.specs.Replies.{Reply, give, check, told-as}
 use Rattle.sheet.specs.Asked.{on-sheet}
-use Rattle.children.specs.ChildList.{children-of, list-right, sent-bytes}
+use Rattle.children.specs.ChildList.{children-of, list-right}
+use Rattle.commands.specs.Handling.{reply-handling}
 use Rattle.configurations.specs.LoopAnswer.{Loops}
 use Rattle.loops.specs.LoopQuestion.{reply-loop}
 
@@ -32,16 +32,9 @@ pub data Answer : Type 0 where
 unfoldable pub placed : {A : Type 0} → List ℕ → List ℕ → ℕ → (Class → Reply A) → Reply A
 placed b l q rest = on-sheet b λ c. check (list-right c l) 10 λ _. check (ltb q (own-states c)) 11 λ _. rest c
 
-unfoldable pub bytes-of-handling : Handling → List ℕ
-bytes-of-handling (handled sent q) = sent-bytes sent
-bytes-of-handling (ignored q) = []
-
 -- 12 and 15: the asked command, and the room for what is sent
 unfoldable pub reply-command : Class → List ℕ → ℕ → ℕ → List ℕ → Reply Handling
-reply-command c l q m out =
-    check (leb m 63) 12 λ _.
-    let h : Handling = command c (children-of l) q m in
-    check (leb (length (bytes-of-handling h)) (length out)) 15 λ _. give h (bytes-of-handling h)
+reply-command c l q m out = check (leb m 63) 12 λ _. reply-handling (command c (children-of l) q m) out
 
 unfoldable pub reply : Question → Reply Answer
 reply (judge b) = on-sheet b λ c. give accepted []

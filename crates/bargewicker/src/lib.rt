@@ -8,7 +8,6 @@ use children::lists::list_ok;
 use commands::handle;
 use loops::asked::loop_with;
 use model::CommandAnswer;
-use model::Handling;
 use model::JudgeAnswer;
 use model::LoopAnswer;
 use model::OwnState;
@@ -132,7 +131,7 @@ fn phase_from(sheet: &[u8], p: Places, children: &[u8], state: u8) -> PhaseAnswe
     PhaseAnswer::Given(node::phases::when_phase(sheet, p, OwnState(state), occupy(children)))
 }
 
-// The command: 12, then 15, where what is sent is longer than the buffer.
+// The command: 12, then what handling it comes to.
 fn command_in(
     sheet: &[u8],
     p: Places,
@@ -151,7 +150,7 @@ fn command_in(
     if 63 < command {
         return CommandAnswer::Refused(Refusal::AskedCommand);
     }
-    let handling = handle(
+    handle(
         sheet,
         p,
         children,
@@ -159,10 +158,5 @@ fn command_in(
         OwnState(state),
         command,
         out,
-    );
-    match handling {
-        commands::Handling::Ignored => CommandAnswer::Given(Handling::Ignored(OwnState(state))),
-        commands::Handling::Handled(q, n) => CommandAnswer::Given(Handling::Handled(q, n)),
-        commands::Handling::Short => CommandAnswer::Refused(Refusal::Room),
-    }
+    )
 }

@@ -27,9 +27,10 @@ use Rattle.configurations.proofs.Demand.{demanded}
 use Rattle.model.specs.Replies.{Reply, refuse, give, check, told-as, numbers}
 use Rattle.sheet.specs.Asked.{on-sheet}
 use Rattle.sheet.proofs.AskedLaws.{refused-first, asked}
+use Rattle.commands.specs.Handling.{bytes-of-handling, reply-handling, handling-values}
 use Rattle.loops.specs.LoopQuestion.{present-right, bytes-of-loops, reply-loop}
-use Rattle.bargewicker.specs.Questions.{Answer, accepted, judge, probe-in, phase-from, command-in, loop-with, probed, phased, commanded, looped, placed, reply, reply-command, bytes-of-handling}
-use Rattle.bargewicker.specs.Numbers.{values, handling-values}
+use Rattle.bargewicker.specs.Questions.{Answer, accepted, judge, probe-in, phase-from, command-in, loop-with, probed, phased, commanded, looped, placed, reply, reply-command}
+use Rattle.bargewicker.specs.Numbers.{values}
 use Rattle.bw.specs.Packed.{Field, word, unpacked, packed, kinds-of-probe, kinds-of-phase, kinds-of-command, kinds-of-loop, NothingLost}
 use Rattle.children.proofs.ChildListLaws.{children-most}
 use Rattle.bargewicker.proofs.AnswerBounds.{state-left, few, found-small, do-small, reached-small, left-small, sent-small}
@@ -133,7 +134,7 @@ handling-kept (ignored s) l m = back-command 0 s 0 (omega arith) l (omega arith)
 
 -- each number is read back
 pub nothing-lost : NothingLost
-unfolding packed reply reply-command reply-loop
+unfolding packed reply reply-command reply-handling reply-loop
 nothing-lost (judge b) h = by-sheet (Kept []) (λ n _ l. no-kinds n l) b _ (λ a. accepted-kept)
 nothing-lost (probe-in b l q) h = placed-by (Kept kinds-of-probe) (no-answer _ _) b l q _ (λ a _ _. probe-kept b h a (children-of l) q)
 nothing-lost (phase-from b l q) h = placed-by (Kept kinds-of-phase) (no-answer _ _) b l q _ (λ a _ low. phase-kept b h a (children-of l) q low)

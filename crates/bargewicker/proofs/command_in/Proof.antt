@@ -1,4 +1,4 @@
--- `command_in`: 10, 11 and 12, then what the node's handling comes to.
+-- `command_in`: 10, 11 and 12, then what handling the command comes to.
 -- Assumes nothing.
 use native.Mathlib.Omega.{arith}
 use mathlib.Core.Path.{_≡_, refl}
@@ -9,8 +9,7 @@ use Rattle.model.specs.Replies.{Reply}
 use Rattle.children.proofs.ListLaws.{list-short}
 use Rattle.bargewicker.specs.Questions.{Answer, command-in, placed, reply}
 use Rattle.bargewicker.proofs.PlacingLaws.{not-fitting, fitting, right-list, crew}
-use Rattle.bargewicker.proofs.PromiseLaws.{refused-so}
-use Rattle.bargewicker.proofs.CommandLaws.{answer-over, done-ignored, done-handled, done-short}
+use Rattle.bargewicker.proofs.PromiseLaws.{refused-so, over-so, commanded-so}
 use borrow.Author.Needs.{needs}
 use Rattle.bargewicker.proofs.command_in.Statement.{statement}
 use Rattle.bargewicker.proofs.command_in.Tie as tie
@@ -29,7 +28,7 @@ fits : (c : tie.After-enum-told) → let a = c .before .before .before .before .
 fits c = fitting _ _ (c .before .before .before .before .before .before .pre) _ _ _ (c .before .before .place .ensures) (c .enum-told .given .1)
 
 returns-2 : tie.Need-returns-2
-returns-2 c = answer-over _ _ _ _ _ (fits (c .before)) (omega arith) _ refl
+returns-2 c = over-so _ _ _ (fits (c .before)) _ _ (omega arith) _ refl
 
 handle-requires : tie.Need-handle-requires
 handle-requires c κs =
@@ -41,14 +40,10 @@ handle-requires c κs =
     (s .pre, (crew _ _ (s .pre) _ _ _ e t _ n (o .occupy .ensures), list-short _ (s .pre .accepted) _ (right-list _ _ (s .pre) _ _ _ e t)))
 
 returns-3 : tie.Need-returns-3
-returns-3 c = done-ignored _ _ _ _ _ (fits (c .before .before .before .before .before .before .before .before)) (omega arith) _ _ (c .before .before .before .before .handle .ensures) (record { 0 = c .before .before .before .before .before .before .before .before .before .before .before .before .before .before .args .state }) refl (c .enum-told2 .given .1)
-
-returns-4 : tie.Need-returns-4
-returns-4 c = done-handled _ _ _ _ _ (fits (c .before .before .before .before .before .before .before .before .before)) (omega arith) _ _ (c .before .before .before .before .before .handle .ensures) _ _ (c .before .handling .given .1)
-
-returns-5 : tie.Need-returns-5
-returns-5 c = done-short _ _ _ _ _ (fits (c .before .before .before .before .before .before .before .before)) (omega arith) _ _ (c .before .before .before .before .handle .ensures) (c .enum-told3 .given .1)
+returns-3 c =
+    let h = c .before .before in
+    commanded-so _ _ _ (fits (h .before .before .before .before)) _ _ (omega arith) (h .handle .result) _ (h .handle .ensures)
 
 pub command-in-spec : {M : Type 1} → statement M
 command-in-spec =
-    tie.close (tie.spec (λ c κs. search needs) (λ c. search needs) returns (λ c. search needs) returns-2 (λ c κs. search needs) handle-requires (λ c. search needs) (λ c. search needs) (λ c. search needs) (λ c. search needs) returns-3 (λ c. search needs) returns-4 (λ c. search needs) returns-5)
+    tie.close (tie.spec (λ c κs. search needs) (λ c. search needs) returns (λ c. search needs) returns-2 (λ c κs. search needs) handle-requires (λ c. search needs) returns-3)
