@@ -1,47 +1,26 @@
 -- Laws about the lines of answers: a text written from the front on is that of an answer's numbers.
 -- Assumes nothing.
-use Prim.Native.Nat.{ℕ}
+use Prim.Native.Nat.{ℕ, zero, suc, _+_, _*_, _/_, _<_, _≤_}
 use native.Mathlib.Omega.{arith}
 use mathlib.Core.Path.{_≡_, refl, sym, _∙_, ap}
-use mathlib.Core.List.{List, [], _∷_}
-use lib.ListN.{length}
+use mathlib.Core.List.{List, [], _∷_, _++_, append-nil, append-assoc}
+use lib.ListN.{length, take, getD}
+use lib.Seq.{take-all}
 use Rattle.model.specs.Refusals.{number-of}
 use Rattle.model.specs.declared.Refusal.{Refusal}
-use Rattle.model.specs.declared.Refusal.the-variants.{SheetLength, Contents, EmptyNameSet, ClauseCounts, GuardLayout, GuardReach, Target, ActionClause, Statement, ChildList, AskedState, AskedCommand, PresentBit, NameCount, Room}
-use Rattle.model.specs.Answers.{referrer-as}
-use Rattle.model.specs.declared.Referrer.{Referrer}
-use Rattle.model.specs.Answers.{ending-as}
-use Rattle.model.specs.declared.Ending.{Ending}
-use Rattle.bargewicker.specs.Numbers.{referrer-values, settled-values}
+use Rattle.model.proofs.RefusalLaws.{numbered-from-1}
 use Rattle.texts.specs.Texts.{Appended, hex-text}
-use Rattle.lines.specs.Lines.{refused-word, clause-word, said, string-field, text-of, phase-text}
-
--- the text of an answer's numbers is that of the same numbers
-pub told : (words : List (List ℕ)) (l m : List ℕ) (end : ℕ) (ns ms : List ℕ) → ns ≡ ms → Appended l m 0 (text-of words ms) end → Appended l m 0 (text-of words ns) end
-told words l m end ns ms e a = rw (sym e) at a
+use Rattle.lines.specs.Lines.{refused-word, said, string-field, text-of, child-field, child-fields}
 
 -- a refusal has the same text whatever was asked
-refusal-text : (words : List (List ℕ)) (x : Refusal) → text-of words (number-of x ∷ []) ≡ said refused-word (number-of x ∷ [])
+refusal-text : (words : List (List ℕ)) (n : ℕ) → 1 ≤ n → text-of words (n ∷ []) ≡ said refused-word (n ∷ [])
 unfolding text-of
-refusal-text words x = elim x [ SheetLength ↦ refl | Contents ↦ refl | EmptyNameSet ↦ refl | ClauseCounts ↦ refl | GuardLayout ↦ refl | GuardReach ↦ refl | Target ↦ refl | ActionClause ↦ refl | Statement ↦ refl | ChildList ↦ refl | AskedState ↦ refl | AskedCommand ↦ refl | PresentBit ↦ refl | NameCount ↦ refl | Room ↦ refl ]
+refusal-text words zero h = absurd (omega arith)
+refusal-text words (suc n) h = refl
 
-pub told-refused : (words : List (List ℕ)) (l m : List ℕ) (end : ℕ) (ns : List ℕ) (x : Refusal) → ns ≡ number-of x ∷ [] → Appended l m 0 (said refused-word (number-of x ∷ [])) end
-    → Appended l m 0 (text-of words ns) end
-told-refused words l m end ns x e a =
-    let f : text-of words ns ≡ said refused-word (number-of x ∷ []) = ap (text-of words) e ∙ refusal-text words x in
-    rw f a
-
--- the same number, referrer and ending have the same text
-pub told-number : (word l m : List ℕ) (end x y : ℕ) → x ≡ y → Appended l m 0 (said word (x ∷ [])) end → Appended l m 0 (said word (y ∷ [])) end
-told-number word l m end x y e a = rw e at a
-
-pub told-clause : (l m : List ℕ) (end i : ℕ) (r s : Referrer) → r ≡ s → Appended l m 0 (said clause-word (i ∷ referrer-values (referrer-as s))) end
-    → Appended l m 0 (said clause-word (i ∷ referrer-values (referrer-as r))) end
-told-clause l m end i r s e a = rw e a
-
-pub told-ending : (l m : List ℕ) (end q n : ℕ) (d e : Ending) → d ≡ e → Appended l m 0 (phase-text (0 ∷ settled-values (ending-as e) q n)) end
-    → Appended l m 0 (phase-text (0 ∷ settled-values (ending-as d) q n)) end
-told-ending l m end q n d e f a = rw f a
+pub told-refused : (words : List (List ℕ)) (l m : List ℕ) (end : ℕ) (x : Refusal) → Appended l m 0 (said refused-word (number-of x ∷ [])) end
+    → Appended l m 0 (text-of words (number-of x ∷ [])) end
+told-refused words l m end x a = rw (refusal-text words (number-of x) (numbered-from-1 x)) a
 
 -- a string with no bytes, and one with some
 pub no-bytes : (bytes : List ℕ) → length bytes ≡ 0 → 32 ∷ 45 ∷ [] ≡ string-field bytes
@@ -51,3 +30,27 @@ no-bytes (b ∷ bs) e = absurd (omega arith)
 pub some-bytes : (bytes : List ℕ) → (length bytes ≡ 0 → ⊥) → 32 ∷ hex-text bytes ≡ string-field bytes
 some-bytes [] e = absurd (e refl)
 some-bytes (b ∷ bs) e = refl
+
+-- one child more of a list of pairs, and all of them
+pub one-more : (l : List ℕ) (i : ℕ) → i < length l / 2
+    → child-fields (take (2 * i) l) ++ child-field (getD l (2 * i) 0) (getD l (2 * i + 1) 0) ≡ child-fields (take (2 * (i + 1)) l)
+unfolding child-fields
+one-more [] i h = absurd (omega arith)
+one-more (x ∷ []) i h = absurd (omega arith)
+one-more (x ∷ y ∷ l) zero h = sym (append-nil (child-field x y))
+one-more (x ∷ y ∷ l) (suc i) h =
+    let d : 2 * suc i ≡ suc (suc (2 * i)) = omega arith in
+    let e : 2 * (suc i + 1) ≡ suc (suc (2 * (i + 1))) = omega arith in
+    let f : 2 * suc i + 1 ≡ suc (suc (2 * i + 1)) = omega arith in
+    let more : List ℕ = child-field (getD l (2 * i) 0) (getD l (2 * i + 1) 0) in
+    rw (f, d, e) (append-assoc (child-field x y) (child-fields (take (2 * i) l)) more ∙ ap (λ (m : List ℕ). child-field x y ++ m) (one-more l i (omega arith)))
+
+pub no-more : (l : List ℕ) (i : ℕ) → length l / 2 ≤ i → child-fields (take (2 * i) l) ≡ child-fields l
+unfolding child-fields
+no-more [] i h = ap child-fields (take-all (2 * i) [] (omega arith))
+no-more (x ∷ []) zero h = refl
+no-more (x ∷ []) (suc i) h = ap child-fields (take-all (2 * suc i) (x ∷ []) (omega arith))
+no-more (x ∷ y ∷ l) zero h = absurd (omega arith)
+no-more (x ∷ y ∷ l) (suc i) h =
+    let d : 2 * suc i ≡ suc (suc (2 * i)) = omega arith in
+    rw d (ap (λ (m : List ℕ). child-field x y ++ m) (no-more l i (omega arith)))

@@ -1,11 +1,11 @@
 -- The line of each answer, as ASCII bytes: a word for its case, then its numbers, then the lent buffer, fields parted by one space.
 -- Assumes nothing.
 use Prim.Native.Nat.{ℕ, zero, suc}
+use mathlib.Core.Bool.{Bool, cond, _&&_}
 use mathlib.Core.List.{List, [], _∷_, _++_}
+use lib.Dec.{eqb}
 use lib.ListN.{getD}
-use Rattle.bargewicker.specs.Questions.{Question, judge, probe-in, phase-from, command-in, loop-with, reply, lent, buffer-after}
-use Rattle.bargewicker.specs.Numbers.{numbers}
-use Rattle.texts.specs.Texts.{number-text, hex-text}
+use Rattle.texts.specs.Texts.{decimal-text, number-text, hex-text}
 
 -- the answer to a line that is no question; the words of the cases
 abbrev pub bad-line : List ℕ
@@ -81,14 +81,20 @@ command-line ns final = command-text ns ++ string-field final
 abbrev pub loop-line : List ℕ → List ℕ → List ℕ
 loop-line ns final = loop-text ns ++ string-field final
 
--- the line of a question's answer by the rules
-unfoldable pub line-of : Question → List ℕ
-line-of (judge b) = judge-text (numbers (reply (judge b)))
-line-of (probe-in b l q) = probe-text (numbers (reply (probe-in b l q)))
-line-of (phase-from b l q) = phase-text (numbers (reply (phase-from b l q)))
-line-of (command-in b l q m out) =
-    let r = reply (command-in b l q m out) in
-    command-line (numbers r) (buffer-after r out)
-line-of (loop-with b present out) =
-    let r = reply (loop-with b present out) in
-    loop-line (numbers r) (buffer-after r out)
+-- a child as class:name, a space before it
+abbrev pub child-field : ℕ → ℕ → List ℕ
+child-field class name = number-text class ++ 58 ∷ decimal-text name
+
+-- each child of a list of pairs
+unfoldable pub child-fields : List ℕ → List ℕ
+child-fields [] = []
+child-fields (class ∷ []) = []
+child-fields (class ∷ name ∷ rest) = child-field class name ++ child-fields rest
+
+-- the numbers are those of a loop: no refusal, and the case after `free`
+abbrev pub is-loop : List ℕ → Bool
+is-loop ns = eqb (getD ns 0 1) 0 && eqb (getD ns 1 0) 1
+
+-- the line that loopcheck prints: the loop question's answer, each child of a loop's list, a line feed
+abbrev pub loopcheck-line : List ℕ → List ℕ → List ℕ
+loopcheck-line ns list = loop-text ns ++ cond (is-loop ns) (child-fields list) [] ++ 10 ∷ []

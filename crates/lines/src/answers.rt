@@ -1,25 +1,27 @@
 // The lines of the answers, each written from the buffer's front on; what is answered is the place behind it. What does not fit is cut
 // off at the buffer's end.
-use bargewicker::CommandAnswer;
-use bargewicker::JudgeAnswer;
-use bargewicker::LoopAnswer;
-use bargewicker::PhaseAnswer;
-use bargewicker::ProbeAnswer;
-use bargewicker::refusal_number;
+use model::CommandAnswer;
 use model::Ending;
+use model::Handling;
+use model::JudgeAnswer;
+use model::LoopAnswer;
+use model::Loops;
 use model::OwnState;
+use model::Phase;
+use model::PhaseAnswer;
+use model::ProbeAnswer;
+use model::Probed;
 use model::Referrer;
 use model::Refusal;
+use model::refusal_number;
 use texts::writing::append_byte;
 use texts::writing::append_bytes;
 use texts::writing::append_hex;
 use texts::writing::append_number;
 ghost use mathlib.Core.List.{[], _∷_};
 ghost use Rattle.model.specs.Refusals.{number-of};
-ghost use Rattle.model.specs.Answers.{referrer-as};
-ghost use Rattle.model.specs.Answers.{ending-as};
-ghost use Rattle.bargewicker.specs.Numbers.{referrer-values, settled-values};
-ghost use Rattle.bargewicker.specs.Answers.{judge-numbers, probe-numbers, phase-numbers, command-numbers, loop-numbers};
+ghost use Rattle.model.specs.Values.{referrer-values, probed-values, settled-values, phase-values};
+ghost use Rattle.model.specs.Answers.{referrer-as, probed-as, ending-as, phase-as, handled-values, looped-values, judge-numbers, probe-numbers, phase-numbers, command-numbers, loop-numbers};
 ghost use Rattle.texts.specs.Texts.{Appended};
 ghost use Rattle.lines.specs.Lines.{bad-line, clause-word, refused-word, string-field, said, judge-text, probe-text, phase-text, command-text, loop-text, command-line, loop-line};
 
@@ -94,13 +96,22 @@ fn clause_line(i: usize, referrer: Referrer, out: &mut [u8]) -> usize
 }
 
 // none, or clause NUMBER REFERRER TARGET
+fn probed_line(probed: Probed, out: &mut [u8]) -> usize
+    ensures { λ r. ⌜ Appended (now (out .entry)) (now (out .exit)) 0 (probe-text (0 ∷ probed-values (probed-as probed))) r ⌝ }
+{
+    match probed {
+        Probed::Nothing => append_bytes(out, 0, b"none"),
+        Probed::Found(i, referrer) => clause_line(i, referrer, out),
+    }
+}
+
+// The line of the probe's answer.
 pub fn probe_line(answer: ProbeAnswer, out: &mut [u8]) -> usize
     ensures { λ r. ⌜ Appended (now (out .entry)) (now (out .exit)) 0 (probe-text (probe-numbers answer)) r ⌝ }
 {
     match answer {
         ProbeAnswer::Refused(x) => refused(x, out),
-        ProbeAnswer::Nothing => append_bytes(out, 0, b"none"),
-        ProbeAnswer::Clause(i, referrer) => clause_line(i, referrer, out),
+        ProbeAnswer::Given(p) => probed_line(p, out),
     }
 }
 
@@ -116,24 +127,42 @@ fn settled_line(ending: Ending, q: OwnState, moves: usize, out: &mut [u8]) -> us
 }
 
 // The same, or loop STATE MOVES
+fn phased_line(phase: Phase, out: &mut [u8]) -> usize
+    ensures { λ r. ⌜ Appended (now (out .entry)) (now (out .exit)) 0 (phase-text (0 ∷ phase-values (phase-as phase))) r ⌝ }
+{
+    match phase {
+        Phase::Settled(ending, q, moves) => settled_line(ending, q, moves, out),
+        Phase::Loops(q, moves) => say_two(b"loop", q.0 as u64, moves as u64, out),
+    }
+}
+
+// The line of the when phase's answer.
 pub fn phase_line(answer: PhaseAnswer, out: &mut [u8]) -> usize
     ensures { λ r. ⌜ Appended (now (out .entry)) (now (out .exit)) 0 (phase-text (phase-numbers answer)) r ⌝ }
 {
     match answer {
         PhaseAnswer::Refused(x) => refused(x, out),
-        PhaseAnswer::Settled(ending, q, moves) => settled_line(ending, q, moves, out),
-        PhaseAnswer::Loops(q, moves) => say_two(b"loop", q.0 as u64, moves as u64, out),
+        PhaseAnswer::Given(p) => phased_line(p, out),
     }
 }
 
 // handled STATE WRITTEN, or ignored STATE 0
+fn handled_line(handling: Handling, out: &mut [u8]) -> usize
+    ensures { λ r. ⌜ Appended (now (out .entry)) (now (out .exit)) 0 (command-text (0 ∷ handled-values handling)) r ⌝ }
+{
+    match handling {
+        Handling::Ignored(q) => say_two(b"ignored", q.0 as u64, 0, out),
+        Handling::Handled(q, n) => say_two(b"handled", q.0 as u64, n as u64, out),
+    }
+}
+
+// The text of the command's answer.
 fn handling_line(answer: CommandAnswer, out: &mut [u8]) -> usize
     ensures { λ r. ⌜ Appended (now (out .entry)) (now (out .exit)) 0 (command-text (command-numbers answer)) r ⌝ }
 {
     match answer {
         CommandAnswer::Refused(x) => refused(x, out),
-        CommandAnswer::Ignored(q) => say_two(b"ignored", q.0 as u64, 0, out),
-        CommandAnswer::Handled(q, n) => say_two(b"handled", q.0 as u64, n as u64, out),
+        CommandAnswer::Given(h) => handled_line(h, out),
     }
 }
 
@@ -146,13 +175,22 @@ pub fn command_line(answer: CommandAnswer, lent: &[u8], out: &mut [u8]) -> usize
 }
 
 // loop CONFIGURATION STATE, or free MOVES
-fn looping_line(answer: LoopAnswer, out: &mut [u8]) -> usize
+fn looped_line(loops: Loops, out: &mut [u8]) -> usize
+    ensures { λ r. ⌜ Appended (now (out .entry)) (now (out .exit)) 0 (loop-text (0 ∷ looped-values loops)) r ⌝ }
+{
+    match loops {
+        Loops::Loop(k, q) => say_two(b"loop", k as u64, q.0 as u64, out),
+        Loops::Free(moves) => say_one(b"free", moves as u64, out),
+    }
+}
+
+// The text of the loop question's answer.
+pub fn looping_line(answer: LoopAnswer, out: &mut [u8]) -> usize
     ensures { λ r. ⌜ Appended (now (out .entry)) (now (out .exit)) 0 (loop-text (loop-numbers answer)) r ⌝ }
 {
     match answer {
         LoopAnswer::Refused(x) => refused(x, out),
-        LoopAnswer::Loop(k, q) => say_two(b"loop", k as u64, q.0 as u64, out),
-        LoopAnswer::Free(moves) => say_one(b"free", moves as u64, out),
+        LoopAnswer::Given(l) => looped_line(l, out),
     }
 }
 

@@ -6,7 +6,7 @@ ghost use Prim.Native.Nat.{_<_, min};
 ghost use Rattle.texts.specs.Texts.{Appended, decimal-text, number-text, hex-digit, hex-byte, hex-text};
 
 // The smaller of two numbers.
-fn least(a: usize, b: usize) -> usize
+pub fn least(a: usize, b: usize) -> usize
     ensures { λ r. ⌜ r ≡ min a b ⌝ }
 {
     if a < b { a } else { b }
