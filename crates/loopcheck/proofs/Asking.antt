@@ -6,7 +6,6 @@ use native.Mathlib.Nat.{mod-eq-of-lt}
 use mathlib.Core.Path.{_≡_, refl, sym, _∙_, ap}
 use mathlib.Core.List.{List, [], _∷_}
 use lib.Pow.{pow-mono, pow-pos}
-use Rattle.model.specs.Tree.{Class}
 use Rattle.model.specs.Refusals.{number-of}
 use Rattle.model.specs.Replies.{refuse, Answered}
 use Rattle.model.specs.declared.Refusal.{Refusal}
