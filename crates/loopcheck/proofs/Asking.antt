@@ -7,19 +7,20 @@ use mathlib.Core.Path.{_≡_, refl, sym, _∙_, ap}
 use mathlib.Core.List.{List, [], _∷_}
 use lib.Pow.{pow-mono, pow-pos}
 use Rattle.model.specs.Refusals.{number-of}
+use Rattle.model.specs.Replies.{refuse, Answered}
 use Rattle.model.specs.declared.Refusal.{Refusal}
-use Rattle.model.proofs.Lists.{length-listed}
+use Rattle.model.proofs.ReplyLaws.{answered}
+use Rattle.bodies.specs.Clauses.{in-fours}
 use Rattle.sheet.specs.Contents.{bodies, body}
-use Rattle.bodies.specs.Clauses.{in-fours, name-set}
-use Rattle.sheet.specs.Reading.{class-in, class-of}
-use Rattle.sheet.specs.Verdict.{verdict-numbers, verdict}
+use Rattle.sheet.specs.Reading.{class-of}
+use Rattle.sheet.specs.Verdict.{verdict-numbers, verdict, Stands}
+use Rattle.sheet.specs.declared.judging.Places.{Places}
 use Rattle.sheet.specs.declared.judging.Verdict.{Verdict}
 use Rattle.sheet.specs.declared.judging.Verdict.the-variants.{Refused}
-use Rattle.bargewicker.specs.Questions.{loop-with, reply, reply-loop}
-use Rattle.bargewicker.specs.Numbers.{Answered}
-use Rattle.bargewicker.proofs.AskedLaws.{refused-too}
-use Rattle.bargewicker.proofs.BufferLaws.{answered-refused}
-use Rattle.loopcheck.specs.Line.{all-present}
+use Rattle.sheet.proofs.Reading.{child-classes-in}
+use Rattle.sheet.proofs.AskedLaws.{asked, refused-too}
+use Rattle.loops.specs.LoopQuestion.{reply-loop, loops-values}
+use Rattle.loopcheck.specs.Line.{all-present, loop-reply}
 
 -- the K lowest bits, K being at most 8
 pub low-bits : (k : ℕ) → k ≤ 8 → (1 * 2 ^ k % 2 ^ 16 ≡ 2 ^ k) × (0 < 2 ^ k) × (2 ^ k ≤ 256)
@@ -30,15 +31,20 @@ low-bits k h =
 
 -- a refused sheet is refused with all classes present too
 pub refused-told : (b list : List ℕ) (r : Verdict) (x : Refusal) → verdict-numbers r ≡ verdict b → r ≡ Refused x
-    → Answered (loop-with b (all-present b) list) (number-of x ∷ []) list
-unfolding reply
-refused-told b list r x e a = answered-refused (loop-with b (all-present b) list) (number-of x) (refused-too b r e x a (λ c. reply-loop c (all-present b) list)) list refl
+    → Answered loops-values (loop-reply b list) list (number-of x ∷ []) list
+unfolding loop-reply
+refused-told b list r x e a =
+    answered loops-values (loop-reply b list) (refuse (number-of x)) (refused-too b r e x a (λ c. reply-loop c (all-present c) list)) list list refl
 
 -- the classes of the sheet are those of the class that it stands for
-all-classes-present : (b : List ℕ) (n : ℕ) → n ≡ in-fours (body b 0) → 2 ^ n - 1 ≡ all-present b
-unfolding all-present class-of class-in bodies
-all-classes-present b n e = ap (λ (k : ℕ). 2 ^ k - 1) (e ∙ sym (length-listed 0 (in-fours (body b 0)) (name-set (body b 0))))
+all-classes-present : (b : List ℕ) (n : ℕ) → n ≡ in-fours (body b 0) → 2 ^ n - 1 ≡ all-present (class-of b)
+unfolding all-present class-of bodies
+all-classes-present b n e = ap (λ (k : ℕ). 2 ^ k - 1) (e ∙ sym (child-classes-in (bodies b)))
 
-pub all-asked : (b list after answer : List ℕ) (n present : ℕ) → n ≡ in-fours (body b 0) → present ≡ 2 ^ n - 1
-    → Answered (loop-with b present list) answer after → Answered (loop-with b (all-present b) list) answer after
-all-asked b list after answer n present e f a = let g : present ≡ all-present b = f ∙ all-classes-present b n e in rw g at a
+-- an accepted sheet is asked with a bit for each of its classes
+pub all-asked : (b list after answer : List ℕ) (p : Places) (n present : ℕ) → Stands b p → n ≡ in-fours (body b 0) → present ≡ 2 ^ n - 1
+    → Answered loops-values (reply-loop (class-of b) present list) list answer after → Answered loops-values (loop-reply b list) list answer after
+unfolding loop-reply
+all-asked b list after answer p n present s e f a =
+    let g : present ≡ all-present (class-of b) = f ∙ all-classes-present b n e in
+    rw (asked b (λ c. reply-loop c (all-present c) list) (s .accepted), ← g) a

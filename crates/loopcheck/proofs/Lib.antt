@@ -1,5 +1,4 @@
-pub mod Fields
-pub mod Replies
-pub mod Printing
 pub mod Asking
+pub mod Pairs
+pub mod Printing
 pub mod Examples

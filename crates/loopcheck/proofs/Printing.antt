@@ -1,93 +1,82 @@
 -- From the loop question's answer to the line: what is written at the head of the buffer is the line of the sheet.
 -- Assumes nothing.
-use Prim.Native.Nat.{ℕ, _+_, _*_, _≤_}
+use Prim.Native.Nat.{ℕ, zero, suc, _+_, _*_, _/_, _%_, _≤_}
 use native.Mathlib.Omega.{arith}
-use mathlib.Core.Path.{_≡_, refl, sym, _∙_, ap}
+use mathlib.Core.Path.{_≡_, sym, _∙_, ap, ap₂}
+use mathlib.Core.Bool.{Bool, true, false, cond}
 use mathlib.Core.List.{List, [], _∷_, _++_}
-use mathlib.Core.Logic.{inl, inr}
-use lib.ListN.{length, take, drop, take-append-drop, length-take}
-use lib.Count.{ones}
-use lib.Seq.{take-at, drop-at, sets-eq}
-use Rattle.model.specs.Words.{listed}
-use Rattle.model.specs.Tree.{Child}
-use Rattle.model.specs.Refusals.{number-of}
-use Rattle.model.specs.declared.Refusal.{Refusal}
-use Rattle.model.specs.declared.OwnState.{OwnState}
-use Rattle.model.proofs.Lists.{length-listed}
-use Rattle.sheet.specs.Reading.{class-of}
-use Rattle.children.specs.ChildList.{children-of, pairs}
-use Rattle.model.specs.Replies.{written}
-use Rattle.configurations.specs.Configurations.{cells, list-of}
-use Rattle.configurations.specs.LoopAnswer.{loop, free}
-use Rattle.bargewicker.specs.Questions.{looped, Reply, refuse, give, loop-with, reply, on-sheet, reply-loop, buffer-after}
-use Rattle.bargewicker.specs.Numbers.{numbers, Answered}
-use Rattle.bargewicker.specs.Answers.{loop-numbers}
-use Rattle.bargewicker.specs.declared.LoopAnswer.{LoopAnswer}
-use Rattle.bargewicker.specs.declared.LoopAnswer.the-variants.{Refused, Loop, Free}
-use Rattle.texts.specs.Texts.{Appended}
+use lib.Dec.{ltb}
+use lib.ListN.{length, take, drop, take-append-drop, length-append, length-take}
+use lib.Seq.{drop-at, sets-eq}
+use Rattle.model.specs.Replies.{Reply, refuse, give, numbers, Answered}
+use Rattle.model.specs.Answers.{loop-numbers}
+use Rattle.model.specs.declared.LoopAnswer.{LoopAnswer}
+use Rattle.configurations.specs.LoopAnswer.{Loops, loop, free}
+use Rattle.loops.specs.LoopQuestion.{loops-values}
+use Rattle.texts.specs.Texts.{Appended, decimal-of, decimal-text, number-text}
 use Rattle.texts.proofs.Appending.{appended-reads}
-use Rattle.loopcheck.specs.Line.{refused-line, free-line, loop-line, reply-line, all-present, loop-reply, line, Printed}
-use Rattle.loopcheck.proofs.Fields.{refused-length, free-length, loop-length}
-use Rattle.loopcheck.proofs.Replies.{Looped, Replied, replied, told-refused, told-free, told-loop, chosen-length, chosen-most}
+use Rattle.lines.specs.Lines.{refused-word, free-word, loop-word, said, text-of, loop-text, child-field, child-fields, is-loop, loopcheck-line}
+use Rattle.loopcheck.specs.Line.{loop-reply, room, bytes-of, line, Printed, children-in}
+use Rattle.loopcheck.proofs.Pairs.{Paired, paired, read-back}
 
--- a list of pairs, read back
-pairs-length : (ks : List Child) → length (pairs ks) ≡ 2 * length ks
-unfolding pairs
-pairs-length [] = refl
-pairs-length (k ∷ ks) = omega (arith, pairs-length ks)
+-- ---- no line is longer than the buffer
 
-children-pairs : (ks : List Child) → children-of (pairs ks) ≡ ks
-unfolding pairs children-of
-children-pairs [] = refl
-children-pairs (k ∷ ks) = ap (λ (l : List Child). k ∷ l) (children-pairs ks)
+-- a number has at most 20 digits
+of-length : (k n : ℕ) → length (decimal-of k n) ≤ suc k
+unfolding decimal-of
+of-length zero n = omega arith
+of-length (suc k) n = go (ltb n 10) (of-length k (n / 10))
+  where
+    go : (b : Bool) → length (decimal-of k (n / 10)) ≤ suc k → length (cond b ((48 + n) ∷ []) (decimal-of k (n / 10) ++ ((48 + n % 10) ∷ []))) ≤ suc (suc k)
+    go true r = omega arith
+    go false r = omega (arith, length-append (decimal-of k (n / 10)) ((48 + n % 10) ∷ []))
 
-read-back : (ks : List Child) (l : List ℕ) (n : ℕ) → length ks ≡ n → children-of (take (2 * n) (written (pairs ks) l)) ≡ ks
-read-back ks l n e =
-    let f : length (pairs ks) ≡ 2 * n = omega (arith, pairs-length ks) in
-    ap children-of (take-at (pairs ks) (drop (length (pairs ks)) l) (2 * n) f) ∙ children-pairs ks
+decimal-length : (n : ℕ) → length (decimal-text n) ≤ 20
+unfolding decimal-text
+decimal-length n = of-length 19 n
 
--- a loop's list has a child for each set bit, and at most 20
-module _ (b : List ℕ) (present : ℕ) (r : Reply) (k q : ℕ) (l : Looped b present r k q) where
-  list-length : length (list-of (class-of b) present k) ≡ ones k
-  unfolding list-of
-  list-length = chosen-length (cells (class-of b) present) k (l .low)
+field-length : (n : ℕ) → length (number-text n) ≤ 21
+field-length n = omega (arith, decimal-length n)
 
-  list-most : length (list-of (class-of b) present k) ≤ 20
-  unfolding list-of
-  list-most = omega (arith, chosen-most (cells (class-of b) present) k, l .few)
+fields-length : (l : List ℕ) → length (child-fields l) ≤ 21 * length l
+unfolding child-fields
+fields-length [] = omega arith
+fields-length (class ∷ []) = omega arith
+fields-length (class ∷ name ∷ rest) =
+    let colon-name : List ℕ = 58 ∷ decimal-text name in
+    omega (
+      arith,
+      field-length class,
+      decimal-length name,
+      fields-length rest,
+      length-append (number-text class) colon-name,
+      length-append (child-field class name) (child-fields rest),
+    )
 
--- so the answer's configuration has at most 20 set bits
-pub loop-few : (b list after : List ℕ) (a : LoopAnswer) (k : ℕ) (q : OwnState) → Answered (loop-with b (all-present b) list) (loop-numbers a) after
-    → a ≡ Loop k q → ones k ≤ 20
-loop-few b list after a k q h e =
-    let r : Reply = reply (loop-with b (all-present b) list) in
-    let told : 0 ∷ 1 ∷ k ∷ q .0 ∷ [] ≡ numbers r = ap loop-numbers (sym e) ∙ h .numbers-are in
-    let found : Looped b (all-present b) r k (q .0) = told-loop b (all-present b) r k (q .0) (replied b (all-present b) list) told in
-    omega (arith, list-length b (all-present b) r k (q .0) found, list-most b (all-present b) r k (q .0) found)
+-- a word of at most 7 bytes, and one number or two
+text-length : (r : Reply Loops) → length (loop-text (numbers loops-values r)) ≤ 46
+unfolding text-of said
+text-length (refuse zero) = omega arith
+text-length (refuse (suc n)) = omega (arith, field-length (suc n), length-append refused-word (number-text (suc n)))
+text-length (give (free m) bytes) = omega (arith, field-length m, length-append free-word (number-text m))
+text-length (give (loop k q ks) bytes) =
+    omega (arith, field-length k, field-length q, length-append loop-word (number-text k), length-append (loop-word ++ number-text k) (number-text q))
 
--- of a lent buffer only the length counts
-same-reply : (b : List ℕ) (present : ℕ) (l m : List ℕ) → length l ≡ length m → reply (loop-with b present l) ≡ reply (loop-with b present m)
-unfolding reply on-sheet reply-loop
-same-reply b present l m e = rw e
+line-length : (r : Reply Loops) (list : List ℕ) → length (loopcheck-line (numbers loops-values r) list) ≤ 47 + 21 * length list
+line-length r list = go (is-loop (numbers loops-values r))
+  where
+    text : List ℕ
+    text = loop-text (numbers loops-values r)
 
-asked : (b l : List ℕ) → length l ≡ 40 → reply (loop-with b (all-present b) l) ≡ loop-reply b
-unfolding loop-reply
-asked b l e = same-reply b (all-present b) l (listed 0 40 (λ _. 0)) (e ∙ sym (length-listed 0 40 (λ _. 0)))
+    go : (t : Bool) → length (text ++ cond t (child-fields list) [] ++ 10 ∷ []) ≤ 47 + 21 * length list
+    go true = omega (arith, text-length r, fields-length list, length-append text (child-fields list), length-append (text ++ child-fields list) (10 ∷ []))
+    go false = omega (arith, text-length r, length-append text [], length-append (text ++ []) (10 ∷ []))
 
--- no line is longer than the buffer
-reply-short : (b : List ℕ) (present : ℕ) (r : Reply) → Replied b present r → length (reply-line r) ≤ 1024
-reply-short b present r (inl (n, e)) = rw e (refused-length n)
-reply-short b present r (inr (inl (m, e))) = rw e (free-length m)
-reply-short b present r (inr (inr (k, q, l))) = rw (l .given) (loop-length k q (list-of (class-of b) present k) (list-most b present r k q l))
-
-line-short : (b : List ℕ) → length (line b) ≤ 1024
-unfolding line loop-reply
-line-short b = reply-short b (all-present b) (loop-reply b) (replied b (all-present b) (listed 0 40 (λ _. 0)))
+-- ---- what is printed
 
 -- a text at the head of the buffer that is the line
-printed : (b l m s : List ℕ) (r : ℕ) → length l ≡ 1024 → s ≡ line b → Appended l m 0 s r → Printed b l m r
-printed b l m s r h e a =
-    let short : length s ≤ length l = omega (arith, line-short b, ap length e) in
+text-printed : (b l m s : List ℕ) (r : ℕ) → length s ≤ length l → s ≡ line b → Appended l m 0 s r → Printed b l m r
+text-printed b l m s r short e a =
     let (size, text) = appended-reads l m r s short a in
     let here : 0 + length s ≡ r = omega (arith, size) in
     let all : m ≡ s ++ drop (0 + length s) l = a .buffer ∙ sets-eq s l 0 (omega arith) in
@@ -97,37 +86,22 @@ printed b l m s r h e a =
       kept = ap (drop r) all ∙ drop-at s (drop (0 + length s) l) r (sym size) ∙ ap (λ (n : ℕ). drop n l) here;
     }
 
--- the three answers
-module _ (b list after l m : List ℕ) (r : ℕ) (room : length list ≡ 40) (size : length l ≡ 1024) where
-  abbrev now-asked : Reply
-  now-asked = reply (loop-with b (all-present b) list)
+-- the answer has at most 20 children; its line, with the pairs that were written, is the sheet's
+module _ (b after : List ℕ) (a : LoopAnswer) (h : Answered loops-values (loop-reply b room) room (loop-numbers a) after) where
+  few-pairs : Paired (bytes-of (loop-reply b room)) (children-in a)
+  few-pairs = paired b room a (h .numbers-are)
 
-  line-of : (x : Reply) → now-asked ≡ x → reply-line x ≡ line b
+  pub few : children-in a ≤ 20
+  few = few-pairs .few
+
+  pub printed : (l m : List ℕ) (r n : ℕ) → n ≡ children-in a → length l ≡ 1024 → Appended l m 0 (loopcheck-line (loop-numbers a) (take (2 * n) after)) r → Printed b l m r
   unfolding line
-  line-of x e = ap reply-line (sym e ∙ asked b list room)
-
-  pub refused-printed : (a : LoopAnswer) (x : Refusal) (n : ℕ) → Answered (loop-with b (all-present b) list) (loop-numbers a) after
-      → a ≡ Refused x → n ≡ number-of x → Appended l m 0 (refused-line n) r → Printed b l m r
-  refused-printed a x n h e f =
-      let told : n ∷ [] ≡ numbers now-asked = ap (λ (y : ℕ). y ∷ []) f ∙ ap loop-numbers (sym e) ∙ h .numbers-are in
-      printed b l m (refused-line n) r size (line-of (refuse n) (told-refused b (all-present b) now-asked n (replied b (all-present b) list) told))
-
-  pub free-printed : (a : LoopAnswer) (x : ℕ) → Answered (loop-with b (all-present b) list) (loop-numbers a) after
-      → a ≡ Free x → Appended l m 0 (free-line x) r → Printed b l m r
-  free-printed a x h e =
-      let told : 0 ∷ 0 ∷ x ∷ [] ≡ numbers now-asked = ap loop-numbers (sym e) ∙ h .numbers-are in
-      printed b l m (free-line x) r size (line-of (give (looped (free x)) []) (told-free b (all-present b) now-asked x (replied b (all-present b) list) told))
-
-  pub loop-printed : (a : LoopAnswer) (k : ℕ) (q : OwnState) → Answered (loop-with b (all-present b) list) (loop-numbers a) after
-      → a ≡ Loop k q → Appended l m 0 (loop-line k (q .0) (children-of (take (2 * ones k) after))) r → Printed b l m r
-  loop-printed a k q h e t =
-      let told : 0 ∷ 1 ∷ k ∷ q .0 ∷ [] ≡ numbers now-asked = ap loop-numbers (sym e) ∙ h .numbers-are in
-      let found : Looped b (all-present b) now-asked k (q .0) = told-loop b (all-present b) now-asked k (q .0) (replied b (all-present b) list) told in
-      let ks : List Child = list-of (class-of b) (all-present b) k in
-      let f : after ≡ written (pairs ks) list = h .buffer-is ∙ ap (λ (x : Reply). buffer-after x list) (found .given) in
-      let g : children-of (take (2 * ones k) after) ≡ ks = ap (λ (x : List ℕ). children-of (take (2 * ones k) x)) f ∙ read-back ks list (ones k) (list-length b (all-present b) now-asked k (q .0) found) in
-      printed b l m (loop-line k (q .0) (children-of (take (2 * ones k) after))) r size
-      (ap (loop-line k (q .0)) g ∙ line-of (give (looped (loop k (q .0) ks)) (pairs ks)) (found .given)) t
+  printed l m r n c size =
+      let p : Paired (bytes-of (loop-reply b room)) n = rw c few-pairs in
+      let back : take (2 * n) after ≡ bytes-of (loop-reply b room) = read-back (loop-reply b room) n p room after (h .buffer-is) in
+      let e : loopcheck-line (loop-numbers a) (take (2 * n) after) ≡ line b = ap₂ loopcheck-line (h .numbers-are) back in
+      text-printed b l m (loopcheck-line (loop-numbers a) (take (2 * n) after)) r
+      (omega (arith, ap length e, line-length (loop-reply b room) (bytes-of (loop-reply b room)), p .size, p .few, size)) e
 
 -- the line lies within the buffer
 pub printed-fits : (b l m : List ℕ) (r : ℕ) → Printed b l m r → (r ≤ length m) × (r ≡ length (take r m))

@@ -2,7 +2,7 @@
 -- Assumes nothing.
 use mathlib.Core.Path.{_≡_}
 use mathlib.Core.List.{[], _∷_}
-use Rattle.bargewicker.specs.Cases.{sheet-A, sheet-B}
+use Rattle.sheet.specs.Samples.{sheet-A, sheet-B}
 use Rattle.loopcheck.specs.Line.{line}
 
 pub record Examples : Type 0 where

@@ -1,83 +1,49 @@
--- The one line that loopcheck prints of a sheet, as bytes: decimal numbers without leading zeros, fields parted by one space, a line
--- feed at the end.
+-- The one line that loopcheck prints of a sheet: the loop question's answer with all K classes present.
 -- Assumes nothing.
 use Prim.Native.Nat.{ℕ, _-_, _^_}
 use mathlib.Core.Path.{_≡_}
-use mathlib.Core.List.{List, [], _∷_, _++_}
-use lib.ListN.{length, take, drop}
-use Rattle.model.specs.Words.{listed}
-use Rattle.model.specs.Tree.{Child}
+use mathlib.Core.List.{List, []}
+use lib.Count.{ones}
+use lib.ListN.{length, take, drop, replicate}
+use Rattle.model.specs.Tree.{Class}
 use Rattle.model.specs.Crews.{child-classes}
-use Rattle.sheet.specs.Reading.{class-of}
-use Rattle.configurations.specs.LoopAnswer.{Loops, loop, free}
-use Rattle.bargewicker.specs.Questions.{Answer, accepted, probed, phased, commanded, looped, Reply, refuse, give, loop-with, reply}
-use Rattle.texts.specs.Texts.{decimal-text, number-text}
+use Rattle.model.specs.Replies.{Reply, refuse, give, numbers}
+use Rattle.model.specs.declared.LoopAnswer.{LoopAnswer}
+use Rattle.model.specs.declared.LoopAnswer.the-variants.{Refused, Given}
+use Rattle.model.specs.declared.Loops.the-variants.{Loop, Free}
+use Rattle.sheet.specs.Asked.{on-sheet}
+use Rattle.configurations.specs.LoopAnswer.{Loops}
+use Rattle.loops.specs.LoopQuestion.{reply-loop, loops-values}
+use Rattle.lines.specs.Lines.{loopcheck-line}
 
--- a colon, a line feed
-abbrev pub colon : ℕ
-colon = 58
+-- all K classes, as a byte of present classes
+unfoldable pub all-present : Class → ℕ
+all-present c = 2 ^ child-classes c - 1
 
-abbrev pub line-end : List ℕ
-line-end = 10 ∷ []
+-- the loop question's reply with all K classes present and a lent buffer
+unfoldable pub loop-reply : List ℕ → List ℕ → Reply Loops
+loop-reply b out = on-sheet b λ c. reply-loop c (all-present c) out
 
--- the words `free`, `loop` and `refused`
-abbrev pub free-word : List ℕ
-free-word = 102 ∷ 114 ∷ 101 ∷ 101 ∷ []
+-- forty zeros, room for every list: there are at most 20 children
+abbrev pub room : List ℕ
+room = replicate 40 0
 
-abbrev pub loop-word : List ℕ
-loop-word = 108 ∷ 111 ∷ 111 ∷ 112 ∷ []
-
-abbrev pub refused-word : List ℕ
-refused-word = 114 ∷ 101 ∷ 102 ∷ 117 ∷ 115 ∷ 101 ∷ 100 ∷ []
-
--- a child as class:name, a space before it
-abbrev pub child-field : ℕ → ℕ → List ℕ
-child-field class name = number-text class ++ colon ∷ decimal-text name
-
--- each child of a list
-unfoldable pub child-fields : List Child → List ℕ
-child-fields [] = []
-child-fields (k ∷ ks) = child-field (k .class) (k .name) ++ child-fields ks
-
--- the three kinds of line
-unfoldable pub refused-line : ℕ → List ℕ
-refused-line n = refused-word ++ number-text n ++ line-end
-
-unfoldable pub free-line : ℕ → List ℕ
-free-line m = free-word ++ number-text m ++ line-end
-
-unfoldable pub loop-line : ℕ → ℕ → List Child → List ℕ
-loop-line k q ks = loop-word ++ number-text k ++ number-text q ++ child-fields ks ++ line-end
-
-abbrev pub loops-line : Loops → List ℕ
-loops-line (free m) = free-line m
-loops-line (loop k q ks) = loop-line k q ks
-
--- the line of a reply; no other question is asked
-abbrev pub answer-line : Answer → List ℕ
-answer-line (looped a) = loops-line a
-answer-line accepted = []
-answer-line (probed p) = []
-answer-line (phased p) = []
-answer-line (commanded h) = []
-
-abbrev pub reply-line : Reply → List ℕ
-reply-line (refuse n) = refused-line n
-reply-line (give a bytes) = answer-line a
-
--- all K classes of the sheet, as a byte of present classes
-unfoldable pub all-present : List ℕ → ℕ
-all-present b = 2 ^ child-classes (class-of b) - 1
-
--- the loop question's reply with all K classes present; the buffer has room for every list of at most 20 children
-unfoldable pub loop-reply : List ℕ → Reply
-loop-reply b = reply (loop-with b (all-present b) (listed 0 40 (λ _. 0)))
+-- the bytes that a reply writes: the pairs of a loop's list
+abbrev pub bytes-of : Reply Loops → List ℕ
+bytes-of (refuse n) = []
+bytes-of (give a bytes) = bytes
 
 unfoldable pub line : List ℕ → List ℕ
-line b = reply-line (loop-reply b)
+line b = loopcheck-line (numbers loops-values (loop-reply b room)) (bytes-of (loop-reply b room))
 
 -- the line stands in the first r bytes of the buffer, and those behind them are as they were
 pub record Printed (b before after : List ℕ) (r : ℕ) : Type 0 where
   pub size : r ≡ length (line b)
   pub text : take r after ≡ line b
   pub kept : drop r after ≡ drop r before
+
+-- how many children the list of an answer has: one for each set bit of a loop's configuration
+abbrev pub children-in : LoopAnswer → ℕ
+children-in (Refused x) = 0
+children-in (Given (Free m)) = 0
+children-in (Given (Loop k q)) = ones k

@@ -43,9 +43,12 @@ pair-small k m = let (j, low, high, e) = mem-listed 0 256 cell k m in rw e (reco
 
 -- a store at one place of a list that is given by its entries
 module _ (n : ℕ) (f g : ℕ → ℕ) (k v : ℕ) (there : g k ≡ v) (others : (j : ℕ) → (j ≡ k → ⊥) → g j ≡ f j) where
+  entry-other : (j : ℕ) → j < n → (j ≡ k → ⊥) → getD (set (listed 0 n f) k v) j 0 ≡ g j
+  entry-other j l h = getD-set-other (listed 0 n f) k j v 0 h ∙ getD-listed 0 n f 0 j j l (omega arith) ∙ sym (others j h)
+
   entry-set : (j : ℕ) → j < n → (j < k) ⊎ (k ≤ j) → (k < j) ⊎ (j ≤ k) → getD (set (listed 0 n f) k v) j 0 ≡ g j
-  entry-set j l (inl u) w = getD-set-other (listed 0 n f) k j v 0 (λ e. omega arith) ∙ getD-listed 0 n f 0 j j l (omega arith) ∙ sym (others j (λ e. omega arith))
-  entry-set j l (inr u) (inl w) = getD-set-other (listed 0 n f) k j v 0 (λ e. omega arith) ∙ getD-listed 0 n f 0 j j l (omega arith) ∙ sym (others j (λ e. omega arith))
+  entry-set j l (inl u) w = entry-other j l (λ e. omega arith)
+  entry-set j l (inr u) (inl w) = entry-other j l (λ e. omega arith)
   entry-set j l (inr u) (inr w) =
       let e : j ≡ k = omega arith in
       rw e (getD-set-same (listed 0 n f) k v 0 (let z = length-listed 0 n f in omega arith) ∙ sym there)
@@ -66,19 +69,21 @@ at-other (x ∷ ks) k (suc j) h = at-other ks k j (λ e. h (ap suc e))
 at-end : (ks : List Child) (k : Child) → cell-at (ks ++ (k ∷ [])) (length ks) ≡ k
 at-end ks k = getD-append-seam ks k [] (record { class = 0; name = 0 })
 
+-- so the classes, or the names, of the first twenty change at one place, if at all
+entries-more : (f : Child → ℕ) (ks : List Child) (k : Child) → set (listed 0 20 (λ i. f (cell-at ks i))) (length ks) (f k) ≡ listed 0 20 (λ i. f (cell-at (ks ++ (k ∷ [])) i))
+entries-more f ks k = listed-set 20 (λ i. f (cell-at ks i)) (λ i. f (cell-at (ks ++ (k ∷ [])) i)) (length ks) (f k) (ap f (at-end ks k)) (λ j h. ap f (at-other ks k j h))
+
 -- what the code makes of a cell more; past the twentieth nothing is stored
 abbrev with-cell : Cells → ℕ → ℕ → Cells
 with-cell r x y = record { classes = set (r .classes) (r .count) x; names = set (r .names) (r .count) y; count = r .count + 1 }
 
 twenty-more : (ks : List Child) (k : Child) → with-cell (first-twenty ks) (k .class) (k .name) ≡ first-twenty (ks ++ (k ∷ []))
 unfolding first-twenty
-twenty-more ks k = λ i. record { classes = classes i; names = names i; count = sym (length-append ks (k ∷ [])) i }
-  where
-    classes : set (listed 0 20 (λ i. cell-at ks i .class)) (length ks) (k .class) ≡ listed 0 20 (λ i. cell-at (ks ++ (k ∷ [])) i .class)
-    classes = listed-set 20 (λ i. cell-at ks i .class) (λ i. cell-at (ks ++ (k ∷ [])) i .class) (length ks) (k .class) (ap (λ (c : Child). c .class) (at-end ks k)) (λ j h. ap (λ (c : Child). c .class) (at-other ks k j h))
+twenty-more ks k = λ i. record { classes = entries-more (λ k. k .class) ks k i; names = entries-more (λ k. k .name) ks k i; count = sym (length-append ks (k ∷ [])) i }
 
-    names : set (listed 0 20 (λ i. cell-at ks i .name)) (length ks) (k .name) ≡ listed 0 20 (λ i. cell-at (ks ++ (k ∷ [])) i .name)
-    names = listed-set 20 (λ i. cell-at ks i .name) (λ i. cell-at (ks ++ (k ∷ [])) i .name) (length ks) (k .name) (ap (λ (c : Child). c .name) (at-end ks k)) (λ j h. ap (λ (c : Child). c .name) (at-other ks k j h))
+-- twenty numbers are as they were after a store past the twentieth
+stored-past : (l : List ℕ) (f : ℕ → ℕ) (n v : ℕ) → l ≡ listed 0 20 f → 20 ≤ n → l ≡ set l n v
+stored-past l f n v e h = let z = ap length e ∙ length-listed 0 20 f in sym (set-out l n v (omega arith))
 
 -- the reading of the cells after j pairs
 pub record Reading (classes : List ℕ) (present : ℕ) (cs ns : List ℕ) (count j : ℕ) : Type 0 where
@@ -119,13 +124,14 @@ module _ (classes : List ℕ) (present : ℕ) where
     pub reading-full : t ≡ true → 20 ≤ count → Reading classes present cs ns (count + 1) (j + 1)
     unfolding first-twenty
     reading-full f l =
-        let long-classes : length cs ≤ count = (let z = ap (λ (c : Cells). length (c .classes)) (r .read) ∙ length-listed 0 20 (λ i. cell-at (present-among classes present j) i .class) in omega arith) in
-        let long-names : length ns ≤ count = (let z = ap (λ (c : Cells). length (c .names)) (r .read) ∙ length-listed 0 20 (λ i. cell-at (present-among classes present j) i .name) in omega arith) in
+        let ks : List Child = present-among classes present j in
+        let same-classes : cs ≡ set cs count x = stored-past cs (λ i. cell-at ks i .class) count x (ap (λ (c : Cells). c .classes) (r .read)) l in
+        let same-names : ns ≡ set ns count y = stored-past ns (λ i. cell-at ks i .name) count y (ap (λ (c : Cells). c .names) (r .read)) l in
         let more = reading-more f in
         record {
           inside = more .inside;
           fewer = more .fewer;
-          read = (λ i. record { classes = sym (set-out cs count x long-classes) i; names = sym (set-out ns count y long-names) i; count = count + 1 }) ∙ more .read;
+          read = (λ i. record { classes = same-classes i; names = same-names i; count = count + 1 }) ∙ more .read;
         }
 
     -- a pair that is not present

@@ -19,12 +19,10 @@ use Rattle.model.proofs.Words.{passed, not-passed}
 use Rattle.model.proofs.AnswerLaws.{same-loop}
 use Rattle.model.proofs.ReplyLaws.{answered, answered-once}
 use Rattle.bodies.specs.Clauses.{in-fours}
-use Rattle.sheet.specs.Contents.{bodies, body}
+use Rattle.sheet.specs.Contents.{body}
 use Rattle.sheet.specs.Reading.{class-of}
 use Rattle.sheet.specs.Verdict.{Stands}
 use Rattle.sheet.specs.declared.judging.Places.{Places}
-use Rattle.sheet.proofs.Contents.{counted}
-use Rattle.accepted.proofs.ReaderLaws.{stands-right}
 use Rattle.children.specs.ChildList.{pairs}
 use Rattle.configurations.specs.Configurations.{name-count, chosen, list-of}
 use Rattle.configurations.specs.LoopAnswer.{Loops, loop, free, loop-answer}
@@ -54,11 +52,6 @@ module _ (c : Class) (present : ℕ) (out : List ℕ) where
       → reply-loop c present out ≡ give a (bytes-of-loops a)
   unfolding reply-loop
   given-reply h n r a e = rw (h, le-leb (name-count c present) 20 n, le-leb (2 * name-count c present) (length out) r, ← e)
-
--- the body of child classes is short
-pub classes-32 : (b : List ℕ) (p : Places) → Stands b p → (l : List ℕ) → l ≡ body b 0 → length l ≤ 32
-unfolding bodies
-classes-32 b p s l e = let most = counted b (stands-right b p s) in rw e (omega (arith, most .classes-whole, most .classes-most))
 
 -- the code's test of the present bits is the paper's
 module _ (b : List ℕ) (p : Places) (s : Stands b p) (present n : ℕ) (e : n ≡ in-fours (body b 0)) (r : Bool) (f : r ≡ bits-below present n) where

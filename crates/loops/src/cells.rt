@@ -7,7 +7,7 @@ use model::ChildClass;
 use model::ChildName;
 ghost use mathlib.Core.Path.{_≡_};
 ghost use Prim.Native.Nat.{_<_, _≤_, _/_, _%_};
-ghost use lib.ListN.{length, getD};
+ghost use lib.ListN.{getD};
 ghost use Rattle.configurations.specs.Configurations.{chosen};
 ghost use Rattle.loops.specs.Cells.{cell-present, cells-of, present-cells, first-twenty, AllSmall, Spreads, counts-on};
 
@@ -51,7 +51,7 @@ fn name_of_cell(names: [u8; 20], i: usize) -> ChildName
 
 // The name is in the class, and the class is present.
 fn cell_present(classes: &[u8], present: u8, class: ChildClass, name: ChildName) -> bool
-    requires { ⌜ (length (now classes) ≤ 32) × (name .0 < 32) ⌝ }
+    requires { ⌜ (class .0 < 8) × (name .0 < 32) ⌝ }
     ensures { λ r. ⌜ r ≡ cell-present (now (classes .entry)) present (class .0) (name .0) ⌝ }
 {
     let i = class.0 as usize;
@@ -63,7 +63,6 @@ fn cell_present(classes: &[u8], present: u8, class: ChildClass, name: ChildName)
 
 // One cell for each name of each present class: the lowest class first, its names rising, then the next class.
 pub fn read_cells(classes: &[u8], present: u8) -> Cells
-    requires { ⌜ length (now classes) ≤ 32 ⌝ }
     ensures { λ r. ⌜ r ≡ first-twenty (present-cells (now (classes .entry)) present) ⌝ }
 {
     let mut cell_classes = [0u8; 20];

@@ -2,15 +2,12 @@
 -- Assumes nothing.
 use native.Mathlib.Omega.{arith}
 use borrow.Author.Needs.{needs}
-use Rattle.loops.proofs.LoopQuestionLaws.{classes-32, bit-refused, bits-right, CellsRead, many-refused, short-refused, cells-known, found-free, found-loop}
+use Rattle.loops.proofs.LoopQuestionLaws.{bit-refused, bits-right, CellsRead, many-refused, short-refused, cells-known, found-free, found-loop}
 use Rattle.loops.proofs.asked.loop_with.Statement.{statement}
 use Rattle.loops.proofs.asked.loop_with.Tie as tie
 
 returns : tie.Need-returns
 returns c = let k = c .before .before in bit-refused _ _ (k .before .before .before .pre) _ _ (k .class-count .ensures .0) _ (c .before .present-ok .ensures) (c .if1 .taken) _
-
-read-cells-requires : tie.Need-read-cells-requires
-read-cells-requires c κs = classes-32 _ _ (c .before .before .before .before .before .before .pre) _ (c .body-of .ensures)
 
 -- what is known once the cells are read
 known : (c : tie.After-read-cells) → let a = c .before .before .before .before .before .before .before .args in CellsRead (a .sheet .now) (a .p) (a .present) (c .read-cells .result)
@@ -48,4 +45,4 @@ returns-5 c =
 
 pub loop-with-spec : {M : Type 1} → statement M
 loop-with-spec =
-    tie.close (tie.spec (λ c κs. search needs) (λ c κs. search needs) returns (λ c κs. search needs) read-cells-requires returns-2 (λ c. search needs) returns-3 search-requires (λ c. search needs) (λ c κs. search needs) (λ c. search needs) (λ c. search needs) returns-4 returns-5)
+    tie.close (tie.spec (λ c κs. search needs) (λ c κs. search needs) returns (λ c κs. search needs) (λ c κs. search needs) returns-2 (λ c. search needs) returns-3 search-requires (λ c. search needs) (λ c κs. search needs) (λ c. search needs) (λ c. search needs) returns-4 returns-5)
