@@ -9,4 +9,3 @@ pub mod Parts
 pub mod PartLaws
 pub mod StatementLaws
 pub mod ReadLaws
-pub mod PartSizes

@@ -30,7 +30,7 @@ use Rattle.sheet.proofs.Reading.{own-states-in, whens-in, mem-whens, mem-action
 use Rattle.sheet.proofs.Rules.{accepted-right}
 use Rattle.sheet.proofs.Sound.{sound}
 use Rattle.bargewicker.specs.Questions.{bytes-of-handling}
-use Rattle.model.proofs.CommandLaws.{part-size}
+use Rattle.model.proofs.SentLaws.{part-size}
 use Rattle.sheet.proofs.ChildListLaws.{bytes-most}
 use Rattle.bw.proofs.SentCount.{body-sized}
 

@@ -12,10 +12,10 @@ use borrow.Author.Tests.{leb-true}
 use Rattle.model.specs.Words.{maybe, every}
 use Rattle.model.specs.Tree.{Part, end, Class}
 use Rattle.model.specs.Crews.{in-class}
-use Rattle.model.proofs.CommandLaws.{part-size}
+use Rattle.model.proofs.SentLaws.{part-size}
 use Rattle.model.proofs.Words.{and-left, and-right}
 use Rattle.bodies.specs.Clauses.{in-fours, in-eights, body-of}
-use Rattle.bodies.proofs.PartSizes.{body-sized as part-sized}
+use Rattle.bodies.proofs.Parts.{body-sized as part-sized}
 use Rattle.sheet.specs.Contents.{Bodies}
 use Rattle.sheet.specs.Reading.{action-in}
 use Rattle.sheet.specs.ChildList.{children-of, list-right}

@@ -17,7 +17,7 @@ use Rattle.model.specs.Node.{state-of}
 use Rattle.model.specs.Commands as Tree
 use Rattle.model.specs.declared.OwnState.{OwnState}
 use Rattle.model.proofs.Words.{clash, and-right, lt-or-le, each-elim, least-some, least-none, least-told}
-use Rattle.model.proofs.CommandLaws.{part-size}
+use Rattle.model.proofs.SentLaws.{part-size}
 use Rattle.sheet.specs.Contents.{body, bodies}
 use Rattle.bodies.specs.Clauses.{in-fours, count-at, count-sum, first-action, action-count, action-command, statement-bytes, body-of}
 use Rattle.bodies.specs.PartChecks.{Reads}
@@ -25,7 +25,7 @@ use Rattle.sheet.specs.ChildList.{children-of, sent-bytes}
 use Rattle.bodies.specs.BodyRules.{counts-right, statements-right}
 use Rattle.sheet.specs.Reading.{action-in, state-in, class-of}
 use Rattle.bodies.proofs.CheckLaws.{sum-next}
-use Rattle.bodies.proofs.PartSizes.{body-sized}
+use Rattle.bodies.proofs.Parts.{body-sized}
 use Rattle.bodies.proofs.StatementLaws.{sum-inside, statements-whole}
 use Rattle.sheet.proofs.ChildListLaws.{half, bytes-most}
 use Rattle.sheet.proofs.Contents.{counted}

@@ -4,6 +4,6 @@ pub mod Lists
 pub mod Moves
 pub mod Occupancy
 pub mod Phase
-pub mod CommandLaws
 pub mod Errors
 pub mod Refusals
+pub mod SentLaws

@@ -8,7 +8,7 @@ use mathlib.Core.List.{List, [], _∷_}
 use lib.ListN.{length}
 use Rattle.model.specs.Tree.{Child, Part}
 use Rattle.model.specs.Commands.{Sent, run-part}
-use Rattle.model.proofs.CommandLaws.{part-size, part-sends}
+use Rattle.model.proofs.SentLaws.{part-size, part-sends}
 use Rattle.sheet.specs.ChildList.{children-of, sent-bytes}
 
 -- two bytes for each child
