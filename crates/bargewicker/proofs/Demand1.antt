@@ -23,7 +23,7 @@ use Rattle.bargewicker.specs.Numbers.{values}
 use Rattle.bargewicker.specs.Promises.{AnswerTo, refusing, numbers-of, Promised}
 use Rattle.bargewicker.specs.Table.{first-failed, table}
 use Rattle.bargewicker.specs.Demands.{Demand1}
-use Rattle.bargewicker.proofs.PromiseLaws.{refusing-numbers, refused-so, judged-so}
+use Rattle.bargewicker.proofs.PromiseLaws.{refusing-numbers, refused-so, accepted-so}
 use Rattle.bargewicker.proofs.TableLaws.{refused-number, sheet-failed, failed}
 use Rattle.bargewicker.proofs.Unique.{unique}
 
@@ -80,5 +80,5 @@ pub accepted-exactly : (b : List ℕ) (r : JudgeAnswer) (final : List ℕ) → P
 unfolding table
 accepted-exactly b r final h = (
   (λ e. sheet-failed b ∙ demand-1 (judge b) r final h .answered .0 (λ x f. absurd (clash (cc (sym e ∙ f))))),
-  λ a. unique (judge b) r J.Accepted final [] h (judged-so b a) .0,
+  λ a. unique (judge b) r J.Accepted final [] h (accepted-so b a) .0,
 )

@@ -48,9 +48,9 @@ pub refused-so : (q : Question) (x : Refusal) → reply q ≡ refuse (number-of 
 refused-so q x e after g = answered-by values (reply q) (refuse (number-of x)) e (lent q) (numbers-of q (refusing q x)) after (refusing-numbers q x) g
 
 -- the judge accepts an accepted sheet
-pub judged-so : (b : List ℕ) → Accepted b → Promised (judge b) J.Accepted []
+pub accepted-so : (b : List ℕ) → Accepted b → Promised (judge b) J.Accepted []
 unfolding reply values
-judged-so b a = answered values (reply (judge b)) (give accepted []) (asked b (λ c. give accepted []) a) [] [] refl
+accepted-so b a = answered values (reply (judge b)) (give accepted []) (asked b (λ c. give accepted []) a) [] [] refl
 
 -- the probe's and the when phase's answers, where the list and the state are right
 module _ (b l : List ℕ) (q : ℕ) (fits : (rest : Class → Reply Answer) → placed b l q rest ≡ rest (class-of b)) where

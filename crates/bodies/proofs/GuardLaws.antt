@@ -15,14 +15,19 @@ use Rattle.model.specs.Words.{choose}
 use Rattle.model.specs.Tree.{Pattern, Kind, all-not-in, Guard, both, either, opposite}
 use Rattle.model.proofs.Words.{clash, true-not-false, lt-or-le}
 use Rattle.bodies.specs.Bytes.{byte, u32, record-at}
-use Rattle.bodies.specs.GuardRecords.{pattern-of, atom-right, operator-right, record-right, Read, got, broken, is-read, Operator, two, one, Record, leaf, operator, unknown, atom-kind, operator-of, record-of, guard-record, joined, shaped, guard-with, guard-at, operands, guard-from}
+use Rattle.bodies.specs.GuardRecords.{pattern-of, atom-right, operator-right, record-right, Read, got, broken, by-read, is-read, Operator, two, one, Record, leaf, operator, unknown, atom-kind, operator-of, record-of, guard-record, joined, shaped, guard-with, guard-at, operands, guard-from}
 use Rattle.bodies.specs.Records.{operator-as}
 use Rattle.bodies.specs.Ends.{end-of}
 use Rattle.bodies.specs.declared.guards.Operator.{Operator as ReadOperator}
 use Rattle.bodies.specs.declared.guards.Operator.the-variants.{Both, Either, Opposite}
 use Rattle.bodies.specs.declared.guards.End.the-variants.{At, Broken}
 use Rattle.bodies.proofs.guards.Operator.{the-type}
-use Rattle.bodies.proofs.Branches.{read-case}
+
+-- what holds where no guard was read, and where one was, holds of what is made of either
+pub read-case {ℓ κ} : {A : Type ℓ} (P : A → Type κ) (r : Read) (x : Unit {0} → A) (f : Guard → ℕ → A)
+    → (r ≡ broken → P (x tt)) → ((g : Guard) (e : ℕ) → r ≡ got g e → P (f g e)) → P (by-read r x f)
+read-case P broken x f p q = p refl
+read-case P (got g e) x f p q = q g e refl
 
 -- the last of an atom's kinds, and of the operators
 pub kind-last : (k : ℕ) → (k ≡ 0 → ⊥) → (k ≡ 1 → ⊥) → (k ≡ 2 → ⊥) → all-not-in ≡ atom-kind k

@@ -2,11 +2,9 @@ pub mod Computing
 pub mod Bytes
 pub mod GuardLaws
 pub mod CheckLaws
-pub mod Branches
 pub mod ReaderLaws
 pub mod Parts
 pub mod PartLaws
 pub mod StatementLaws
 pub mod ReadLaws
-pub mod PartSizes
 pub mod Unique

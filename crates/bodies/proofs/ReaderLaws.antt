@@ -16,9 +16,9 @@ use Rattle.model.specs.declared.OwnState.{OwnState}
 use Rattle.model.proofs.Words.{clash}
 use Rattle.bodies.specs.Bytes.{byte, u16, records-from}
 use Rattle.bodies.specs.GuardRecords.{pattern-of}
-use Rattle.bodies.specs.Patterns.{pattern-as}
+use Rattle.bodies.specs.Patterns.{pattern-as, pattern-read}
 use Rattle.bodies.specs.StatementRecords.{part-length}
-use Rattle.bodies.specs.StatementReaders.{pattern-read, by-kind, statement-record, records-beside, behind-statement}
+use Rattle.bodies.specs.StatementReaders.{by-kind, statement-record, records-beside, behind-statement}
 use Rattle.bodies.specs.declared.kinds.Pattern.{Pattern}
 use Rattle.bodies.specs.declared.kinds.Pattern.the-variants.{Everyone, OfClass}
 use Rattle.bodies.specs.declared.statements.StatementRecord.{StatementRecord}

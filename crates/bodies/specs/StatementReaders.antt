@@ -2,19 +2,14 @@
 -- Assumes nothing.
 use Prim.Native.Nat.{ℕ, _+_, _*_}
 use mathlib.Core.List.{List, [], _∷_}
-use lib.Dec.{eqb, ltb}
+use lib.Dec.{ltb}
 use lib.ListN.{length, getD, drop}
 use Rattle.model.specs.Words.{choose}
 use Rattle.bodies.specs.Bytes.{byte, u16, records-from}
-use Rattle.bodies.specs.declared.kinds.Pattern.{Pattern}
-use Rattle.bodies.specs.declared.kinds.Pattern.the-variants.{Everyone, OfClass}
+use Rattle.bodies.specs.Patterns.{pattern-read}
 use Rattle.bodies.specs.declared.statements.Branch.{Branch}
 use Rattle.bodies.specs.declared.statements.StatementRecord.{StatementRecord}
 use Rattle.bodies.specs.declared.statements.StatementRecord.the-variants.{Do, MoveTo, If, Unknown}
-
--- the pattern that a byte is: 255 for all children, else a child class
-abbrev pub pattern-read : ℕ → Pattern
-pattern-read p = choose (eqb p 255) (λ _. Everyone) (λ _. OfClass (record { 0 = p }))
 
 -- what a record is, by its kind: 0 do, 1 move_to, 2 if
 abbrev pub by-kind : List ℕ → List StatementRecord

@@ -14,7 +14,7 @@ use Rattle.model.specs.Node.{own-states, Probed, nothing, found, probe, by-none
 use Rattle.model.specs.Commands.{Handling, handled, ignored, command}
 use Rattle.model.proofs.NodeLaws.{phase-settled, phase-loops}
 use Rattle.model.specs.Words.{Bytes}
-use Rattle.bodies.proofs.Branches.{choose-case}
+use Rattle.model.proofs.Words.{choose-case}
 use Rattle.sheet.specs.Rules.{refusal, Accepted}
 use Rattle.sheet.specs.Reading.{class-of}
 use Rattle.children.specs.ChildList.{children-of, list-right}

@@ -28,7 +28,7 @@ use Rattle.children.specs.ChildList.{children-of, sent-bytes}
 use Rattle.bodies.specs.BodyRules.{counts-right, statements-right}
 use Rattle.sheet.specs.Reading.{action-in, state-in, class-of}
 use Rattle.bodies.proofs.CheckLaws.{sum-next}
-use Rattle.bodies.proofs.PartSizes.{body-sized}
+use Rattle.bodies.proofs.Parts.{body-sized}
 use Rattle.bodies.proofs.StatementLaws.{sum-inside, statements-whole}
 use Rattle.children.proofs.ChildListLaws.{half, bytes-most}
 use Rattle.sheet.proofs.Contents.{counted}

@@ -30,15 +30,16 @@ use Rattle.commands.specs.Handling.{reply-handling, handling-values}
 unfoldable pub concerned : Pattern → ℕ → Bool
 concerned p i = concerns p (record { class = i; name = 0 })
 
--- commands stand in the buffer from a place on, as far as it reaches; the place behind them
+-- commands stand in the buffer from a place on, as far as it reaches, and end is the place behind them
 pub record Writes (sent : List Tree.Sent) (before after : List ℕ) (at end : ℕ) : Type 0 where
   pub buffer : after ≡ sets before at (sent-bytes sent)
   pub place : end ≡ at + length (sent-bytes sent)
 
--- that place is small enough to be counted
+-- the place behind commands that are sent from a place on is small enough to be counted
 abbrev pub Counted : List Tree.Sent → ℕ → Type 0
 Counted sent at = at + length (sent-bytes sent) < 1000000000000
 
+-- the state moved to, as the tree has it
 abbrev pub moved-as : Moved → Option ℕ
 moved-as Not = none
 moved-as (To t) = some (t .0)

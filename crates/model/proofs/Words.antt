@@ -189,3 +189,14 @@ greatest-at (suc (suc n)) f l = go (lt-or-le (f (suc n)) (greatest (suc n) f)) (
         → (j : ℕ) × (j < suc (suc n)) × (f j ≡ max (greatest (suc n) f) (f (suc n)))
     go (inl b) (j, k, e) = (j, (omega arith), (omega arith))
     go (inr b) (j, k, e) = (suc n, (omega arith), (omega arith))
+
+-- what holds of both branches holds of the one chosen; each branch may use its test
+pub choose-case {ℓ κ} : {A : Type ℓ} (P : A → Type κ) (t : Bool) (x y : Unit {0} → A) → (t ≡ true → P (x tt)) → (t ≡ false → P (y tt)) → P (choose t x y)
+choose-case P true x y p q = p refl
+choose-case P false x y p q = q refl
+
+-- the same where there may be a value
+pub maybe-case {ℓ κ μ} : {A : Type ℓ} {B : Type κ} (P : B → Type μ) (o : Option A) (x : Unit {0} → B) (f : A → B)
+    → (o ≡ none → P (x tt)) → ((a : A) → o ≡ some a → P (f a)) → P (maybe o x f)
+maybe-case P none x f p q = p refl
+maybe-case P (some a) x f p q = q a refl

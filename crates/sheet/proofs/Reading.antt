@@ -16,7 +16,7 @@ use Rattle.model.proofs.CommandLaws.{part-size}
 use Rattle.model.proofs.Lists.{length-listed, getD-listed, getD-past, mem-listed}
 use Rattle.sheet.specs.Contents.{Bodies}
 use Rattle.bodies.specs.Clauses.{in-fours, in-eights, name-set, count-at, count-sum, when-count, action-count, first-when, first-action, body-of}
-use Rattle.bodies.proofs.PartSizes.{body-sized as part-sized}
+use Rattle.bodies.proofs.Parts.{body-sized as part-sized}
 use Rattle.sheet.specs.Reading.{when-in, action-in, state-in, class-in}
 
 module _ (s : Bodies) where

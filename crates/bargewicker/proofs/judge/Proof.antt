@@ -3,13 +3,13 @@
 use mathlib.Core.Path.{refl}
 use Rattle.sheet.proofs.AskedLaws.{stands, refused-too}
 use Rattle.bargewicker.specs.Questions.{judge, reply}
-use Rattle.bargewicker.proofs.PromiseLaws.{refused-so, judged-so}
+use Rattle.bargewicker.proofs.PromiseLaws.{refused-so, accepted-so}
 use borrow.Author.Needs.{needs}
 use Rattle.bargewicker.proofs.judge.Statement.{statement}
 use Rattle.bargewicker.proofs.judge.Tie as tie
 
 returns : tie.Need-returns
-returns c = judged-so _ (stands _ _ (c .before .before .judge .ensures) _ (c .enum-told .given .1) .accepted)
+returns c = accepted-so _ (stands _ _ (c .before .before .judge .ensures) _ (c .enum-told .given .1) .accepted)
 
 returns-2 : tie.Need-returns-2
 unfolding reply

@@ -53,39 +53,41 @@ module _ (t : ℕ) where
   abbrev run-if-uses : run-if-lts.Claims
   run-if-uses = (guard-true-reads.Asked, guard-true-reads.Learnt, then-part-reads.Asked, then-part-reads.Learnt, run-list-below, run-list.Post, else-part-reads.Asked, else-part-reads.Learnt)
 
+  -- what `run-if` was called with
+  abbrev asked : run-if-lts.After-guard-true run-if-uses run-if-at run-if.Post → run-if-lts.Start run-if-uses run-if-at run-if.Post
+  asked x = x .before .before .before .before .before .before
+
   run-if-run-list-requires : run-if-lts.Need-run-list-requires run-if-uses run-if-at run-if.Post
   run-if-run-list-requires c κs =
       let x = c .before .before .before in
-      let s = x .before .before .before .before .before .before in
+      let s = asked x in
       let a = s .args in
-      let e = sym (s .pre .1 .1) in
       let p = c .before .then-part in
-      (omega (arith, parts-fall 0 (a .branch .thens) (a .part .now) (p .result .now) (told (a .part .now) _ e .0) (p .ensures)), room-in (a .g .now) (a .list .now) (a .part .now) (a .at) (a .sets) (s .pre .1 .0) (a .branch) e true _ (sym (c .before .before .if1 .taken) ∙ x .guard-true .ensures) (p .ensures))
+      let e = sym (s .pre .1 .1) in
+      (omega (arith, parts-fall 0 (a .branch .thens) (a .part .now) (p .result .now) (told (a .part .now) _ e .0) (p .ensures)), room-in _ _ _ _ _ (s .pre .1 .0) _ e true _ (sym (c .before .before .if1 .taken) ∙ x .guard-true .ensures) (p .ensures))
 
   run-if-returns : run-if-lts.Need-returns run-if-uses run-if-at run-if.Post
   run-if-returns c =
-      let t = c .before .before .before .before in
-      let x = t .before .before in
-      let s = x .before .before .before .before .before .before in
-      let a = s .args in
-      run-in (a .g .now) (a .list .now) (a .part .now) (a .at) (a .branch) (sym (s .pre .1 .1)) (a .sets) (s .pre .1 .0 .crewed) true (sym (t .before .if1 .taken) ∙ x .guard-true .ensures) _ (t .then-part .ensures) (c .before .before .run-list .ensures)
+      let p = c .before .before .before .before in
+      let x = p .before .before in
+      let h = asked x .pre .1 in
+      run-in _ _ _ _ _ (sym (h .1)) _ (h .0 .crewed) true (sym (p .before .if1 .taken) ∙ x .guard-true .ensures) _ (p .then-part .ensures) (c .before .before .run-list .ensures)
 
   run-if-run-list-requires-2 : run-if-lts.Need-run-list-requires-2 run-if-uses run-if-at run-if.Post
   run-if-run-list-requires-2 c κs =
       let x = c .before .before .before in
-      let s = x .before .before .before .before .before .before in
+      let s = asked x in
       let a = s .args in
-      let e = sym (s .pre .1 .1) in
       let p = c .before .else-part in
-      (omega (arith, parts-fall (a .branch .thens) (a .branch .elses) (a .part .now) (p .result .now) (told (a .part .now) _ e .0) (p .ensures)), room-in (a .g .now) (a .list .now) (a .part .now) (a .at) (a .sets) (s .pre .1 .0) (a .branch) e false _ (sym (c .before .before .if1 .left) ∙ x .guard-true .ensures) (p .ensures))
+      let e = sym (s .pre .1 .1) in
+      (omega (arith, parts-fall (a .branch .thens) (a .branch .elses) (a .part .now) (p .result .now) (told (a .part .now) _ e .0) (p .ensures)), room-in _ _ _ _ _ (s .pre .1 .0) _ e false _ (sym (c .before .before .if1 .left) ∙ x .guard-true .ensures) (p .ensures))
 
   run-if-returns-2 : run-if-lts.Need-returns-2 run-if-uses run-if-at run-if.Post
   run-if-returns-2 c =
-      let t = c .before .before .before .before in
-      let x = t .before .before in
-      let s = x .before .before .before .before .before .before in
-      let a = s .args in
-      run-in (a .g .now) (a .list .now) (a .part .now) (a .at) (a .branch) (sym (s .pre .1 .1)) (a .sets) (s .pre .1 .0 .crewed) false (sym (t .before .if1 .left) ∙ x .guard-true .ensures) _ (t .else-part .ensures) (c .before .before .run-list2 .ensures)
+      let p = c .before .before .before .before in
+      let x = p .before .before in
+      let h = asked x .pre .1 in
+      run-in _ _ _ _ _ (sym (h .1)) _ (h .0 .crewed) false (sym (p .before .if1 .left) ∙ x .guard-true .ensures) _ (p .else-part .ensures) (c .before .before .run-list2 .ensures)
 
   abbrev run-list-uses : run-list-lts.Claims
   run-list-uses = (statement-record-reads.Asked, statement-record-reads.Learnt, send-reads.Asked, send-reads.Learnt, behind-statement-reads.Asked, behind-statement-reads.Learnt, run-list-below, run-list.Post, run-if-below, run-if.Post)
@@ -109,18 +111,17 @@ module _ (t : ℕ) where
   run-list-send-requires : run-list-lts.Need-send-requires run-list-uses run-list-at run-list.Post
   run-list-send-requires c κs =
       let k = c .before .before in
-      let s = start (k .before .before) in
-      let a = s .args in
-      (s .pre .1 .short, room-send (a .g .now) (a .list .now) (a .part .now) (a .at) (a .sets) (s .pre .1) _ _ (do-front k))
+      let h = start (k .before .before) .pre .1 in
+      (h .short, room-send _ _ _ _ _ h _ _ (do-front k))
 
   run-list-run-list-requires : run-list-lts.Need-run-list-requires run-list-uses run-list-at run-list.Post
   run-list-run-list-requires c κs =
-      let d = c .before .before .before .before in
+      let p = c .before in
+      let d = p .before .before .before in
       let k = d .before .before .before in
       let s = start (k .before .before) in
-      let a = s .args in
-      let p = c .before .behind-statement in
-      (omega (arith, behind-falls (do-of k) (a .part .now) (p .result .now) (told (a .part .now) _ (do-front k) .0) (p .ensures)), room-sent (a .g .now) (a .list .now) (a .part .now) (a .at) (a .sets) (s .pre .1) _ _ (do-front k) _ _ (d .send .ensures) (p .ensures))
+      let part = s .args .part .now in
+      (omega (arith, behind-falls (do-of k) part (p .behind-statement .result .now) (told part _ (do-front k) .0) (p .behind-statement .ensures)), room-sent _ _ _ _ _ (s .pre .1) _ _ (do-front k) _ _ (d .send .ensures) (p .behind-statement .ensures))
 
   run-list-run-if-requires : run-list-lts.Need-run-if-requires run-list-uses run-list-at run-list.Post
   run-list-run-if-requires c κs =
@@ -129,49 +130,37 @@ module _ (t : ℕ) where
 
   run-list-run-list-requires-2 : run-list-lts.Need-run-list-requires-2 run-list-uses run-list-at run-list.Post
   run-list-run-list-requires-2 c κs =
-      let o = c .before .before in
+      let p = c .before in
+      let o = p .before in
       let d = o .before .before .before .before in
       let k = d .before .before .before in
       let s = start (k .before .before) in
-      let a = s .args in
-      let p = c .before .behind-statement2 in
-      (omega (arith, behind-falls (if-of k) (a .part .now) (p .result .now) (told (a .part .now) _ (if-front k) .0) (p .ensures)), room-ran (a .g .now) (a .list .now) (a .part .now) (a .at) (a .sets) (s .pre .1) _ (if-front k) _ (d .run-if .ensures) (o .enum-told .given .1) (p .ensures))
+      let part = s .args .part .now in
+      (omega (arith, behind-falls (if-of k) part (p .behind-statement2 .result .now) (told part _ (if-front k) .0) (p .behind-statement2 .ensures)), room-ran _ _ _ _ _ (s .pre .1) _ (if-front k) _ (d .run-if .ensures) (o .enum-told .given .1) (p .behind-statement2 .ensures))
 
   run-list-returns : run-list-lts.Need-returns run-list-uses run-list-at run-list.Post
   run-list-returns c =
       let p = c .before .before .before .before in
       let d = p .before .before .before in
-      let k = d .before .before .before in
-      let a = start (k .before .before) .args in
-      run-sent (a .g .now) (a .list .now) (a .part .now) (a .at) (a .out .now) _ _ (do-front k) _ (d .send .ensures) (p .behind-statement .ensures) (c .before .before .run-list .ensures)
+      run-sent _ _ _ _ _ _ _ (do-front (d .before .before .before)) _ (d .send .ensures) (p .behind-statement .ensures) (c .before .before .run-list .ensures)
 
   run-list-returns-2 : run-list-lts.Need-returns-2 run-list-uses run-list-at run-list.Post
-  run-list-returns-2 c =
-      let r = c .before .before .before in
-      let a = start r .args in
-      run-go (a .g .now) (a .list .now) (a .part .now) (a .at) (a .out .now) _ (sym (c .before .front2 .given .1) ∙ r .statement-record .ensures)
+  run-list-returns-2 c = run-go _ _ _ _ _ _ (sym (c .before .front2 .given .1) ∙ c .before .before .before .statement-record .ensures)
 
   run-list-returns-3 : run-list-lts.Need-returns-3 run-list-uses run-list-at run-list.Post
   run-list-returns-3 c =
       let d = c .before .before .before .before .before in
-      let k = d .before .before .before in
-      let a = start (k .before .before) .args in
-      run-moved (a .g .now) (a .list .now) (a .part .now) (a .at) (a .out .now) _ (if-front k) (d .run-if .ensures) _ (c .before .moved .given .1)
+      run-moved _ _ _ _ _ _ (if-front (d .before .before .before)) (d .run-if .ensures) _ (c .before .moved .given .1)
 
   run-list-returns-4 : run-list-lts.Need-returns-4 run-list-uses run-list-at run-list.Post
   run-list-returns-4 c =
       let p = c .before .before .before .before in
       let o = p .before in
       let d = o .before .before .before .before in
-      let k = d .before .before .before in
-      let a = start (k .before .before) .args in
-      run-on (a .g .now) (a .list .now) (a .part .now) (a .at) (a .out .now) _ (if-front k) (d .run-if .ensures) _ (o .enum-told .given .1) (p .behind-statement2 .ensures) (c .before .before .run-list2 .ensures)
+      run-on _ _ _ _ _ _ (if-front (d .before .before .before)) (d .run-if .ensures) _ (o .enum-told .given .1) (p .behind-statement2 .ensures) (c .before .before .run-list2 .ensures)
 
   run-list-returns-5 : run-list-lts.Need-returns-5 run-list-uses run-list-at run-list.Post
-  run-list-returns-5 c =
-      let r = c .before .before in
-      let a = start r .args in
-      run-nothing (a .g .now) (a .list .now) (a .part .now) (a .at) (a .out .now) (sym (c .enum-told2 .given .1) ∙ r .statement-record .ensures)
+  run-list-returns-5 c = run-nothing _ _ _ _ _ (sym (c .enum-told2 .given .1) ∙ c .before .before .statement-record .ensures)
 
 pub +run-if+run-list-spec : {M : Type 1} → statement M
 +run-if+run-list-spec =

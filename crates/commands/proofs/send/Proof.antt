@@ -17,12 +17,16 @@ abbrev μ-loop : tie.MeasureT-loop
 loop-again : tie.Need-loop-again Inv-loop μ-loop
 loop-again c =
     let b = c .before .before .before .before .before in
-    send-more _ _ _ (b .before .before .before .loop .inv) (b .before .before .loop-test .taken) (sent-told (b .before .before .before .before .before .before .args .list .now) _ (b .before .before .before .before .before .before .args .command) (b .before .before .before .loop .i) _ (b .before .class-at .ensures) _ (b .is-meant .ensures) (c .before .before .before .before .if1 .taken)) (c .before .before .put .ensures)
+    let l = b .before .before .before in
+    let a = l .before .before .before .args in
+    send-more _ _ _ (l .loop .inv) (b .before .before .loop-test .taken) (sent-told (a .list .now) _ (a .command) (l .loop .i) _ (b .before .class-at .ensures) _ (b .is-meant .ensures) (c .before .before .before .before .if1 .taken)) (c .before .before .put .ensures)
 
 loop-again-2 : tie.Need-loop-again-2 Inv-loop μ-loop
 loop-again-2 c =
     let b = c .before in
-    send-past _ _ _ (b .before .before .before .loop .inv) (b .before .before .loop-test .taken) (sent-told (b .before .before .before .before .before .before .args .list .now) _ (b .before .before .before .before .before .before .args .command) (b .before .before .before .loop .i) _ (b .before .class-at .ensures) _ (b .is-meant .ensures) (c .if1 .left))
+    let l = b .before .before .before in
+    let a = l .before .before .before .args in
+    send-past _ _ _ (l .loop .inv) (b .before .before .loop-test .taken) (sent-told (a .list .now) _ (a .command) (l .loop .i) _ (b .before .class-at .ensures) _ (b .is-meant .ensures) (c .if1 .left))
 
 returns : tie.Need-returns Inv-loop μ-loop
 returns c = send-end _ _ _ (c .before .loop .inv) (c .loop-test .left)
