@@ -170,13 +170,13 @@ module _ (b : List ℕ) (q m a : ℕ) (C : Chosen b q m a) (list e e′ out out�
       let ran = Tree.run-part (C .part) (children-of list) in
       (ran .sent, maybe (ran .moved) (λ _. q) (λ t. t), C .handled (children-of list), omega (arith, D .writes .place, ap length same), same)
 
-  pub handled-told : (last : List ℕ) (w : Ran) (s : OwnState) → r .at ≤ length out′ → Does (Tree.run-part (C .part) (children-of list)) (take (r .at - 0) out′) last 0 w
+  pub handled-told : (room last : List ℕ) (w : Ran) (s : OwnState) → r .at ≤ length out′ → Does (Tree.run-part (C .part) (children-of list)) room last 0 w → room ≡ take (r .at - 0) out′
       → maybe (moved-as (w .moved)) (λ _. q) (λ t. t) ≡ s .0 → HandlesAs answer q out (last ++ drop (r .at - 0) out′) (Handled s (w .at))
-  handled-told last w s l E em =
+  handled-told room last w s l E er em =
       let ran = Tree.run-part (C .part) (children-of list) in
       let n : w .at ≡ length bytes = omega (arith, E .writes .place) in
       let f : r .at - 0 ≡ w .at = omega (arith, D .writes .place) in
       let k : w .at ≤ length out = omega (arith, ap length same) in
       let h : answer ≡ Tree.handled (ran .sent) (s .0) = C .handled (children-of list) ∙ ap (Tree.handled (ran .sent)) (ap (λ (o : Option ℕ). maybe o (λ _. q) (λ t. t)) (sym (E .moved)) ∙ em) in
-      let c : last ≡ bytes = E .writes .buffer ∙ sets-all (take (r .at - 0) out′) bytes (omega (arith, length-take (r .at - 0) out′)) in
+      let c : last ≡ bytes = E .writes .buffer ∙ sets-all room bytes (omega (arith, ap length er, length-take (r .at - 0) out′)) in
       (ran .sent, h, n, k, rw (c, f, same))
