@@ -15,7 +15,7 @@ use Rattle.model.specs.Commands.{Handling, handled, ignored, handled-by, comman
 use Rattle.model.specs.Sound.{ReferrerRight, part-within}
 use Rattle.model.proofs.Moves.{after-within}
 use Rattle.model.proofs.NodeLaws.{getD-mem, probe-found, turn-runs, next-within}
-use Rattle.model.proofs.CommandLaws.{part-size, part-moves, clause-listed}
+use Rattle.model.proofs.RunLaws.{part-size, part-moves, clause-listed}
 use Rattle.model.specs.Words.{Bytes}
 use Rattle.bodies.specs.Clauses.{in-eights, referrer-of}
 use Rattle.bodies.proofs.Bytes.{u16-below}

@@ -11,7 +11,7 @@ use lib.ListN.{length, take, drop, length-take, length-drop}
 use Rattle.model.specs.Tree.{Guard, Pattern, Statement, send, go-to, branch, Part, end, _then_}
 use Rattle.model.specs.Sound.{statement-within, part-within}
 use Rattle.model.proofs.Words.{and-left, and-both}
-use Rattle.model.proofs.CommandLaws.{one-size, part-size}
+use Rattle.model.proofs.RunLaws.{one-size, part-size}
 use Rattle.bodies.specs.Bytes.{byte, u16, u32, records}
 use Rattle.bodies.specs.GuardRecords.{guard-from}
 use Rattle.bodies.specs.StatementRecords.{do-right, move-right, then-length, else-length, part-length, if-from, statement-from, part-with, part-at}

@@ -11,9 +11,8 @@ use crate::statements::body_ok;
 use crate::statements::statements_of;
 use crate::words::byte_at;
 ghost use mathlib.Core.Path.{_≡_};
-ghost use Prim.Native.Nat.{_+_, _*_, _<_, _≤_};
+ghost use Prim.Native.Nat.{_<_, _≤_};
 ghost use lib.ListN.{length};
-ghost use Rattle.bodies.specs.Clauses.{in-fours, in-eights, count-sum};
 ghost use Rattle.bodies.specs.BodyRules.{classes-right, counts-right, guards-right, target-right, state-targets-right, targets-right, action-right, actions-plain, new-command, none-twice, commands-apart, actions-right, statements-right};
 
 // 3: no child class has an empty set.
@@ -202,7 +201,7 @@ pub fn statements_ok(
     actions: &[u8],
     statements: &[u8],
 ) -> bool
-    requires { ⌜ (length (now actions) ≤ 1024) × (count-sum (now actions) 2 (in-fours (now actions)) ≡ in-eights (now statements)) ⌝ }
+    requires { ⌜ length (now actions) ≤ 1024 ⌝ }
     ensures { λ r. ⌜ r ≡ statements-right classes states (now (guards .entry)) (now (actions .entry)) (now (statements .entry)) ⌝ }
 {
     let n = actions.len() / 4;

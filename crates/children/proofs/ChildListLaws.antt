@@ -14,7 +14,7 @@ use Rattle.model.specs.Tree.{Child, Part, Class}
 use Rattle.model.specs.Crews.{in-class}
 use Rattle.model.specs.Commands.{Sent, run-part}
 use Rattle.model.proofs.Words.{and-left, and-right}
-use Rattle.model.proofs.CommandLaws.{part-size, part-sends}
+use Rattle.model.proofs.RunLaws.{part-size, part-sends}
 use Rattle.children.specs.ChildList.{children-of, list-right, sent-bytes}
 
 -- two bytes for each child

@@ -20,7 +20,7 @@ use Rattle.model.specs.declared.Refusal.the-variants.{Room}
 use Rattle.model.specs.declared.Handling.the-variants.{Handled}
 use Rattle.model.specs.declared.CommandAnswer.the-variants.{Given, Refused}
 use Rattle.model.proofs.Words.{clash, and-right, lt-or-le, each-elim, least-some, least-none, least-told}
-use Rattle.model.proofs.CommandLaws.{part-size}
+use Rattle.model.proofs.RunLaws.{part-size}
 use Rattle.sheet.specs.Contents.{body, bodies}
 use Rattle.bodies.specs.Clauses.{in-fours, count-at, count-sum, first-action, action-count, action-command, statement-bytes, body-of}
 use Rattle.bodies.specs.PartChecks.{Reads}
@@ -172,13 +172,13 @@ module _ (b : List ℕ) (q m a : ℕ) (C : Chosen b q m a) (list e e′ out out�
   short-told l =
       short-so answer (ran .sent) (maybe (ran .moved) (λ _. q) (λ t. t)) (C .handled (children-of list)) out out′ (omega (arith, D .writes .place, ap length same)) same
 
-  pub handled-told : (last : List ℕ) (w : Ran) (s : OwnState) → r .at ≤ length out′ → Does ran (take (r .at - 0) out′) last 0 w → maybe (moved-as (w .moved)) (λ _. q) (λ t. t) ≡ s .0
-      → HandledSo answer out (last ++ drop (r .at - 0) out′) (Given (Handled s (w .at)))
-  handled-told last w s l E em =
+  pub handled-told : (room last : List ℕ) (w : Ran) (s : OwnState) → r .at ≤ length out′ → Does ran room last 0 w → room ≡ take (r .at - 0) out′
+      → maybe (moved-as (w .moved)) (λ _. q) (λ t. t) ≡ s .0 → HandledSo answer out (last ++ drop (r .at - 0) out′) (Given (Handled s (w .at)))
+  handled-told room last w s l E er em =
       let bytes = sent-bytes (ran .sent) in
       let n : w .at ≡ length bytes = omega (arith, E .writes .place) in
       let f : r .at - 0 ≡ w .at = omega (arith, D .writes .place) in
       let k : w .at ≤ length out = omega (arith, ap length same) in
       let h : answer ≡ Tree.handled (ran .sent) (s .0) = C .handled (children-of list) ∙ ap (Tree.handled (ran .sent)) (ap (λ (o : Option ℕ). maybe o (λ _. q) (λ t. t)) (sym (E .moved)) ∙ em) in
-      let c : last ≡ bytes = E .writes .buffer ∙ sets-all (take (r .at - 0) out′) bytes (omega (arith, length-take (r .at - 0) out′)) in
+      let c : last ≡ bytes = E .writes .buffer ∙ sets-all room bytes (omega (arith, ap length er, length-take (r .at - 0) out′)) in
       handled-so answer (ran .sent) (s .0) h out (last ++ drop (r .at - 0) out′) s refl (w .at) n k (rw (c, f, same))

@@ -6,7 +6,7 @@ pub mod Lists
 pub mod Moves
 pub mod Occupancy
 pub mod NodeLaws
-pub mod CommandLaws
+pub mod RunLaws
 pub mod Errors
 pub mod RefusalLaws
 pub mod AnswerLaws

@@ -111,14 +111,6 @@ module _ {r ok : Bool} {x : ℕ} (n : ℕ) (rest : ℕ) (e : x ≡ checked ok (s
 pub accepts : {x : ℕ} → x ≡ 0 → (p : Places) → 0 ∷ place-numbers p ≡ outcome x p
 accepts e p = rw e
 
--- right action clauses have the statements' records
-pub sum-right : (states actions : List ℕ) (T : ℕ) → actions-right states actions T ≡ true → count-sum actions 2 (in-fours actions) ≡ T
-unfolding actions-right
-sum-right states actions T h =
-    eqb-true (count-sum actions 2 (in-fours actions)) T
-    (and-right (commands-apart states actions) (eqb (count-sum actions 2 (in-fours actions)) T)
-    (and-right (actions-plain actions) (commands-apart states actions && eqb (count-sum actions 2 (in-fours actions)) T) h))
-
 -- the check of the length, as the judge makes it
 below-or-not : (a b : ℕ) → leb a b ≡ not (ltb b a)
 below-or-not a b = go (lt-or-le b a)

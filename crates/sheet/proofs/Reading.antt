@@ -12,7 +12,7 @@ use Rattle.model.specs.Tree.{When, Part, end, Action, State, no-state}
 use Rattle.model.specs.Node.{own-states, state-of}
 use Rattle.model.specs.Crews.{child-classes}
 use Rattle.model.proofs.Words.{lt-or-le}
-use Rattle.model.proofs.CommandLaws.{part-size}
+use Rattle.model.proofs.RunLaws.{part-size}
 use Rattle.model.proofs.Lists.{length-listed, getD-listed, getD-past, mem-listed}
 use Rattle.sheet.specs.Contents.{Bodies}
 use Rattle.bodies.specs.Clauses.{in-fours, in-eights, name-set, count-at, count-sum, when-count, action-count, first-when, first-action, body-of}

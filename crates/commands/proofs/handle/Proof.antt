@@ -64,14 +64,14 @@ returns-3 c =
     let w = c .before .before .before .before .before in
     let d = w .before .before .before .before .before in
     let b = d .before .before in
-    handled-told _ _ _ _ (picked (b .before .before .before .before)) _ _ _ _ _ _ (d .run-list .ensures _ (part-read b)) (none-before (d .run-list .last .1 .1 .1 .1 .0) _ (d .run-list .kept .1 .1 .1 .1 .0)) _ _ _ (w .before .before .if2 .left) (w .run-list2 .ensures _ (part-read b)) (moved-told _ (c .before .moved .given .1))
+    handled-told _ _ _ _ (picked (b .before .before .before .before)) _ _ _ _ _ _ (d .run-list .ensures _ (part-read b)) (none-before (d .run-list .last .1 .1 .1 .1 .0) _ (d .run-list .kept .1 .1 .1 .1 .0)) _ _ _ _ (w .before .before .if2 .left) (w .run-list2 .ensures _ (part-read b)) refl (moved-told _ (c .before .moved .given .1))
 
 returns-4 : tie.Need-returns-4
 returns-4 c =
     let w = c .before .before .before .before in
     let d = w .before .before .before .before .before in
     let b = d .before .before in
-    handled-told _ _ _ _ (picked (b .before .before .before .before)) _ _ _ _ _ _ (d .run-list .ensures _ (part-read b)) (none-before (d .run-list .last .1 .1 .1 .1 .0) _ (d .run-list .kept .1 .1 .1 .1 .0)) _ _ _ (w .before .before .if2 .left) (w .run-list2 .ensures _ (part-read b)) (moved-told _ (c .enum-told .given .1))
+    handled-told _ _ _ _ (picked (b .before .before .before .before)) _ _ _ _ _ _ (d .run-list .ensures _ (part-read b)) (none-before (d .run-list .last .1 .1 .1 .1 .0) _ (d .run-list .kept .1 .1 .1 .1 .0)) _ _ _ _ (w .before .before .if2 .left) (w .run-list2 .ensures _ (part-read b)) refl (moved-told _ (c .enum-told .given .1))
 
 pub handle-spec : {M : Type 1} → statement M
 handle-spec =

@@ -23,10 +23,6 @@ abbrev μ-loop : tie.MeasureT-loop
 loop-holds : tie.Need-loop-holds Inv-loop μ-loop
 loop-holds c = (search needs, each-none _)
 
-statements-of-requires : tie.Need-statements-of-requires Inv-loop μ-loop
-statements-of-requires c κs =
-    omega (arith, c .before .before .before .before .before .pre .0)
-
 returns : tie.Need-returns Inv-loop μ-loop
 unfolding statements-right
 returns c =
@@ -46,4 +42,4 @@ returns-2 c = sym (each-all _ _ _ (c .before .loop .inv .0) (c .loop-test .left)
 
 pub statements-ok-spec : {M : Type 1} → statement M
 statements-ok-spec =
-    tie.close (tie.spec Inv-loop μ-loop loop-holds statements-of-requires (λ c κs. search needs) returns (λ c. search needs) (λ c. search needs) loop-again returns-2)
+    tie.close (tie.spec Inv-loop μ-loop loop-holds (λ c κs. search needs) (λ c κs. search needs) returns (λ c. search needs) (λ c. search needs) loop-again returns-2)

@@ -1,12 +1,11 @@
 -- At each check that passed, what the rules from the next on give is the refusal of the bodies; so a check that fails gives its number.
 -- Assumes nothing.
-use mathlib.Core.Path.{_≡_, sym, _∙_}
+use mathlib.Core.Path.{_≡_}
 use borrow.Author.Needs.{needs}
-use borrow.Author.Tests.{not-false}
 use Rattle.sheet.specs.Contents.{Bodies}
 use Rattle.sheet.specs.Rules.{refusal-in}
 use Rattle.sheet.specs.Verdict.{together}
-use Rattle.sheet.proofs.JudgeLaws.{from-4, from-5, from-6, from-7, from-8, from-9, from-first, goes-on, stops, accepts, sum-right}
+use Rattle.sheet.proofs.JudgeLaws.{from-4, from-5, from-6, from-7, from-8, from-9, from-first, goes-on, stops, accepts}
 use Rattle.sheet.proofs.judging.judge_bodies.Statement.{statement}
 use Rattle.sheet.proofs.judging.judge_bodies.Tie as tie
 
@@ -55,12 +54,9 @@ passed-7 c = goes-on 8 _ (passed-6 (c .before .before)) (c .before .statements-o
 returns-7 : tie.Need-returns-7
 returns-7 c = stops 8 _ (passed-6 (c .before .before)) (c .before .statements-ok .ensures) (c .if7 .taken) _
 
-statements-ok-requires : tie.Need-statements-ok-requires
-statements-ok-requires c κs = (search needs, sum-right _ _ _ (sym (c .before .actions-ok .ensures) ∙ not-false _ (c .if6 .left)))
-
 returns-8 : tie.Need-returns-8
 returns-8 c = accepts (passed-7 c) _
 
 pub judge-bodies-spec : {M : Type 1} → statement M
 judge-bodies-spec =
-    tie.close (tie.spec (λ c κs. search needs) returns (λ c κs. search needs) returns-2 (λ c κs. search needs) returns-3 (λ c κs. search needs) returns-4 (λ c κs. search needs) returns-5 (λ c κs. search needs) returns-6 statements-ok-requires returns-7 returns-8)
+    tie.close (tie.spec (λ c κs. search needs) returns (λ c κs. search needs) returns-2 (λ c κs. search needs) returns-3 (λ c κs. search needs) returns-4 (λ c κs. search needs) returns-5 (λ c κs. search needs) returns-6 (λ c κs. search needs) returns-7 returns-8)
