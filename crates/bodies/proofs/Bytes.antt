@@ -60,25 +60,6 @@ unfolding records
 length-records zero b = refl
 length-records (suc n) b = ap suc (length-records n (drop 8 b))
 
--- record i is the 8 bytes from i * 8 on
-pub getD-records : (n : ℕ) (b : List ℕ) (i : ℕ) (d : List ℕ) → i < n → getD (records n b) i d ≡ take 8 (drop (i * 8) b)
-unfolding records
-getD-records zero b i d l = absurd (omega arith)
-getD-records (suc n) b zero d l = refl
-getD-records (suc n) b (suc i) d l =
-    let e : 8 + i * 8 ≡ suc i * 8 = omega arith in
-    getD-records n (drop 8 b) i d (omega arith) ∙ ap (λ (x : List ℕ). take 8 x) (drop-drop (i * 8) 8 b ∙ ap (λ (k : ℕ). drop k b) e)
-
--- byte j of record i, and the numbers in it, read in the whole
-pub byte-record : (b : List ℕ) (i j : ℕ) → j < 8 → byte (take 8 (drop (i * 8) b)) j ≡ byte b (i * 8 + j)
-byte-record b i j l = getD-take 8 (drop (i * 8) b) j 0 l ∙ getD-drop (i * 8) b j 0
-
-pub u16-record : (b : List ℕ) (i j : ℕ) → j + 2 ≤ 8 → u16 (take 8 (drop (i * 8) b)) j ≡ u16 b (i * 8 + j)
-u16-record b i j l = u16-take 8 (drop (i * 8) b) j l ∙ u16-drop (i * 8) b j
-
-pub u32-record : (b : List ℕ) (i j : ℕ) → j + 4 ≤ 8 → u32 (take 8 (drop (i * 8) b)) j ≡ u32 b (i * 8 + j)
-u32-record b i j l = u32-take 8 (drop (i * 8) b) j l ∙ u32-drop (i * 8) b j
-
 -- the first k of n records
 pub take-records : (k n : ℕ) (b : List ℕ) → k ≤ n → take k (records n b) ≡ records k b
 unfolding records

@@ -7,13 +7,15 @@ use crate::clauses::count_sum;
 use crate::clauses::guard_place;
 use crate::clauses::name_set;
 use crate::guards::guard_ok;
+use crate::guards::records_ok;
 use crate::statements::body_ok;
 use crate::statements::statements_of;
 use crate::words::byte_at;
 ghost use mathlib.Core.Path.{_≡_};
 ghost use Prim.Native.Nat.{_<_, _≤_};
 ghost use lib.ListN.{length};
-ghost use Rattle.bodies.specs.BodyRules.{classes-right, counts-right, guards-right, target-right, state-targets-right, targets-right, action-right, actions-plain, new-command, none-twice, commands-apart, actions-right, statements-right};
+ghost use Rattle.bodies.specs.Clauses.{in-fours, in-eights};
+ghost use Rattle.bodies.specs.BodyRules.{classes-right, counts-right, records-right, guards-right, target-right, state-targets-right, targets-right, action-right, actions-plain, new-command, none-twice, commands-apart, actions-right, statements-right};
 
 // 3: no child class has an empty set.
 pub fn classes_ok(classes: &[u8]) -> bool
@@ -32,14 +34,21 @@ pub fn classes_ok(classes: &[u8]) -> bool
 }
 
 // 4: the counts of the states sum to the clauses.
-pub fn counts_ok(states: &[u8], whens: usize, actions: usize) -> bool
+pub fn counts_ok(states: &[u8], whens: &[u8], actions: &[u8]) -> bool
     requires { ⌜ length (now states) ≤ 1024 ⌝ }
-    ensures { λ r. ⌜ r ≡ counts-right (now (states .entry)) whens actions ⌝ }
+    ensures { λ r. ⌜ r ≡ counts-right (now (states .entry)) (in-fours (now (whens .entry))) (in-fours (now (actions .entry))) ⌝ }
 {
     let n = states.len() / 4;
     let when_sum = count_sum(states, WHEN_CLAUSES, n);
     let action_sum = count_sum(states, ACTION_CLAUSES, n);
-    (when_sum == whens) & (action_sum == actions)
+    (when_sum == whens.len() / 4) & (action_sum == actions.len() / 4)
+}
+
+// 5: every guard record keeps its layout.
+pub fn layouts_ok(classes: &[u8], guards: &[u8]) -> bool
+    ensures { λ r. ⌜ r ≡ records-right (in-fours (now (classes .entry))) (now (guards .entry)) ⌝ }
+{
+    records_ok(classes.len() / 4, guards)
 }
 
 // 6: every when clause's guard reads.
@@ -183,33 +192,35 @@ fn none_twice_anywhere(states: &[u8], actions: &[u8]) -> bool
 }
 
 // 8: every action clause is right, and the statement counts sum to the statements.
-pub fn actions_ok(states: &[u8], actions: &[u8], statements: usize) -> bool
+pub fn actions_ok(states: &[u8], actions: &[u8], statements: &[u8]) -> bool
     requires { ⌜ (length (now states) ≤ 1024) × (length (now actions) ≤ 1024) ⌝ }
-    ensures { λ r. ⌜ r ≡ actions-right (now (states .entry)) (now (actions .entry)) statements ⌝ }
+    ensures { λ r. ⌜ r ≡ actions-right (now (states .entry)) (now (actions .entry)) (in-eights (now (statements .entry))) ⌝ }
 {
     let plain = each_action_ok(actions);
     let apart = none_twice_anywhere(states, actions);
     let sum = count_sum(actions, 2, actions.len() / 4);
-    plain & (apart & (sum == statements))
+    plain & (apart & (sum == statements.len() / 8))
 }
 
 // 9: the statements of every action clause read as a part.
 pub fn statements_ok(
-    classes: usize,
-    states: usize,
+    classes: &[u8],
+    states: &[u8],
     guards: &[u8],
     actions: &[u8],
     statements: &[u8],
 ) -> bool
     requires { ⌜ length (now actions) ≤ 1024 ⌝ }
-    ensures { λ r. ⌜ r ≡ statements-right classes states (now (guards .entry)) (now (actions .entry)) (now (statements .entry)) ⌝ }
+    ensures { λ r. ⌜ r ≡ statements-right (in-fours (now (classes .entry))) (in-fours (now (states .entry))) (now (guards .entry)) (now (actions .entry)) (now (statements .entry)) ⌝ }
 {
+    let class_count = classes.len() / 4;
+    let state_count = states.len() / 4;
     let n = actions.len() / 4;
     let mut a = 0;
     while a < n {
         if !body_ok(
-            classes,
-            states,
+            class_count,
+            state_count,
             guards,
             statements_of(actions, statements, a),
         ) {

@@ -3,6 +3,7 @@ use crate::crews::has_name;
 use bodies::clauses::name_set;
 use bodies::kinds::class_at;
 use bodies::kinds::name_at;
+use bodies::words::in_fours;
 use model::ChildClass;
 use model::ChildName;
 ghost use mathlib.Core.Path.{_≡_};
@@ -16,7 +17,7 @@ fn child_ok(classes: &[u8], class: ChildClass, name: ChildName) -> bool
     ensures { λ r. ⌜ r ≡ child-right (now (classes .entry)) (class .0) (name .0) ⌝ }
 {
     let i = class.0 as usize;
-    if classes.len() / 4 <= i {
+    if in_fours(classes) <= i {
         return false;
     }
     if 32 <= name.0 {

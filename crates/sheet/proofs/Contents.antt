@@ -21,16 +21,6 @@ pub body-bytes : (b : List ℕ) → Bytes b → (k : ℕ) → Bytes (body b k)
 unfolding body
 body-bytes b h k = take-bytes (size b k) (drop (start b k) b) (drop-bytes (start b k) b h)
 
--- a sheet of the right length has at least 24 bytes
-pub length-least : (b : List ℕ) → length-right b ≡ true → 24 ≤ length b
-unfolding length-right
-length-least b h = leb-true 24 (length b) (and-left (leb 24 (length b)) (leb (length b) 18616) h)
-
--- and at most 18,616
-pub length-most : (b : List ℕ) → length-right b ≡ true → length b ≤ 18616
-unfolding length-right
-length-most b h = leb-true (length b) 18616 (and-right (leb 24 (length b)) (leb (length b) 18616) h)
-
 -- names for the parts of the tests, to take them apart by
 abbrev each-follows : List ℕ → Bool
 each-follows b = each 5 (λ k. eqb (start b (k + 1)) (start b k + size b k))
@@ -67,11 +57,6 @@ module _ (b : List ℕ) (h : contents-right b ≡ true) where
   starts : (each-follows b && ends-right b) ≡ true
   unfolding bodies-follow
   starts = and-right (eqb (start b 0) 24) (each-follows b && ends-right b) follow
-
-  -- the first body starts at byte 24
-  pub first-start : start b 0 ≡ 24
-  unfolding bodies-follow
-  first-start = eqb-true (start b 0) 24 (and-left (eqb (start b 0) 24) (each-follows b && ends-right b) follow)
 
   -- each next one where the one before ended
   pub next-start : (k : ℕ) → k < 5 → start b (k + 1) ≡ start b k + size b k

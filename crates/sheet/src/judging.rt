@@ -3,9 +3,9 @@ use bodies::checks::actions_ok;
 use bodies::checks::classes_ok;
 use bodies::checks::counts_ok;
 use bodies::checks::guards_ok;
+use bodies::checks::layouts_ok;
 use bodies::checks::statements_ok;
 use bodies::checks::targets_ok;
-use bodies::guards::records_ok;
 use bodies::words::u16_at;
 use model::Refusal;
 ghost use mathlib.Core.Path.{_≡_};
@@ -124,15 +124,13 @@ fn judge_bodies(
     requires { ⌜ ShortBodies (now classes) (now states) (now whens) (now actions) ⌝ }
     ensures { λ r. ⌜ verdict-numbers r ≡ outcome (refusal-in (together (now (classes .entry)) (now (states .entry)) (now (whens .entry)) (now (guards .entry)) (now (actions .entry)) (now (statements .entry)))) places ⌝ }
 {
-    let class_count = classes.len() / 4;
-    let state_count = states.len() / 4;
     if !classes_ok(classes) {
         return Verdict::Refused(Refusal::EmptyNameSet);
     }
-    if !counts_ok(states, whens.len() / 4, actions.len() / 4) {
+    if !counts_ok(states, whens, actions) {
         return Verdict::Refused(Refusal::ClauseCounts);
     }
-    if !records_ok(class_count, guards) {
+    if !layouts_ok(classes, guards) {
         return Verdict::Refused(Refusal::GuardLayout);
     }
     if !guards_ok(guards, whens) {
@@ -141,10 +139,10 @@ fn judge_bodies(
     if !targets_ok(states, whens) {
         return Verdict::Refused(Refusal::Target);
     }
-    if !actions_ok(states, actions, statements.len() / 8) {
+    if !actions_ok(states, actions, statements) {
         return Verdict::Refused(Refusal::ActionClause);
     }
-    if !statements_ok(class_count, state_count, guards, actions, statements) {
+    if !statements_ok(classes, states, guards, actions, statements) {
         return Verdict::Refused(Refusal::Statement);
     }
     Verdict::Accepted(places)

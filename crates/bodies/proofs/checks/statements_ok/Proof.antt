@@ -7,18 +7,18 @@ use mathlib.Core.Bool.{true}
 use borrow.Author.Needs.{needs}
 use Rattle.model.specs.Words.{is-some, each}
 use Rattle.model.proofs.Words.{each-none, each-so-far, each-all, each-broken, passed, not-passed}
-use Rattle.bodies.specs.Clauses.{body-of}
+use Rattle.bodies.specs.Clauses.{in-fours, body-of}
 use Rattle.bodies.specs.BodyRules.{statements-right}
 use Rattle.bodies.proofs.StatementLaws.{body-reads}
 use Rattle.bodies.proofs.checks.statements_ok.Statement.{statement}
 use Rattle.bodies.proofs.checks.statements_ok.Tie as tie
 
 abbrev Inv-loop : tie.InvT-loop
-Inv-loop classes states guards actions statements n a₀ a =
-    (a ≤ n) × (each a (λ i. is-some (body-of classes states guards actions statements i)) ≡ true)
+Inv-loop classes states guards actions statements K S n a₀ a =
+    (a ≤ n) × (each a (λ i. is-some (body-of (in-fours classes) (in-fours states) guards actions statements i)) ≡ true)
 
 abbrev μ-loop : tie.MeasureT-loop
-μ-loop classes states guards actions statements n a₀ a = n - a
+μ-loop classes states guards actions statements K S n a₀ a = n - a
 
 loop-holds : tie.Need-loop-holds Inv-loop μ-loop
 loop-holds c = (search needs, each-none _)
@@ -26,14 +26,14 @@ loop-holds c = (search needs, each-none _)
 returns : tie.Need-returns Inv-loop μ-loop
 unfolding statements-right
 returns c =
-    let s = c .before .before .before .before .before .before .before .before .args in
-    let e = c .before .body-ok .ensures ∙ body-reads (s .classes) (s .states) (s .guards .now) (s .actions .now) (s .statements .now) _ _ (c .before .before .statements-of .ensures) in
+    let s = c .before .before .before .before .before .before .before .before .before .before .args in
+    let e = c .before .body-ok .ensures ∙ body-reads (in-fours (s .classes .now)) (in-fours (s .states .now)) (s .guards .now) (s .actions .now) (s .statements .now) _ _ (c .before .before .statements-of .ensures) in
     sym (each-broken _ _ _ (c .before .before .before .loop-test .taken) (not-passed e (c .if1 .taken)))
 
 loop-again : tie.Need-loop-again Inv-loop μ-loop
 loop-again c =
-    let s = c .before .before .before .before .before .before .before .before .args in
-    let e = c .before .body-ok .ensures ∙ body-reads (s .classes) (s .states) (s .guards .now) (s .actions .now) (s .statements .now) _ _ (c .before .before .statements-of .ensures) in
+    let s = c .before .before .before .before .before .before .before .before .before .before .args in
+    let e = c .before .body-ok .ensures ∙ body-reads (in-fours (s .classes .now)) (in-fours (s .states .now)) (s .guards .now) (s .actions .now) (s .statements .now) _ _ (c .before .before .statements-of .ensures) in
     (search needs, each-so-far _ _ (c .before .before .before .before .loop .inv .1) (passed e (c .if1 .left)))
 
 returns-2 : tie.Need-returns-2 Inv-loop μ-loop
