@@ -85,7 +85,7 @@ loop-line ns final = loop-text ns ++ string-field final
 abbrev pub child-field : ℕ → ℕ → List ℕ
 child-field class name = number-text class ++ 58 ∷ decimal-text name
 
--- each child of a list of pairs
+-- each child of a list of pairs; a last byte without its pair is none
 unfoldable pub child-fields : List ℕ → List ℕ
 child-fields [] = []
 child-fields (class ∷ []) = []

@@ -1,12 +1,13 @@
--- The digits that `io` makes of a number are its decimal text.
+-- Laws about a number's decimal text: it is what `io` makes of the number, and short.
 -- Assumes nothing.
 use Prim.Native.Nat.{ℕ, zero, suc, _+_, _-_, _*_, _/_, _%_, _^_, _<_, _≤_}
 use native.Mathlib.Omega.{arith}
 use native.Mathlib.Nat.{pow-suc, one-le-pow, pow-le-pow-right}
 use mathlib.Core.Path.{_≡_, refl, sym, _∙_, ap}
-use mathlib.Core.Bool.{Bool, true, false}
+use mathlib.Core.Bool.{Bool, true, false, cond}
 use mathlib.Core.List.{[], _∷_, _++_}
-use lib.Dec.{leb}
+use lib.Dec.{leb, ltb}
+use lib.ListN.{length, length-append}
 use borrow.Author.Tests.{lt-ltb, le-ltb, leb-true, leb-false}
 use Rattle.io.specs.Digits.{digits, glyph, Fewest}
 use Rattle.texts.specs.Texts.{decimal-of, decimal-text}
@@ -63,3 +64,17 @@ unfolding decimal-text
 decimal-digits n zero h f = absurd (omega (arith, f .0))
 decimal-digits n (suc j) h f =
     digits-of j 19 n (omega (arith, few n (suc j) h f)) (f .1) (λ z. let e : suc j - 1 ≡ j = omega arith in rw e at (f .2 (omega arith)))
+
+-- it has at most 20 digits
+of-length : (k n : ℕ) → length (decimal-of k n) ≤ suc k
+unfolding decimal-of
+of-length zero n = omega arith
+of-length (suc k) n = go (ltb n 10) (of-length k (n / 10))
+  where
+    go : (b : Bool) → length (decimal-of k (n / 10)) ≤ suc k → length (cond b ((48 + n) ∷ []) (decimal-of k (n / 10) ++ ((48 + n % 10) ∷ []))) ≤ suc (suc k)
+    go true r = omega arith
+    go false r = omega (arith, length-append (decimal-of k (n / 10)) ((48 + n % 10) ∷ []))
+
+pub decimal-length : (n : ℕ) → length (decimal-text n) ≤ 20
+unfolding decimal-text
+decimal-length n = of-length 19 n

@@ -70,7 +70,8 @@ pub fn other_fields(line: &[u8]) -> &[u8]
 
 // The value of a decimal digit; 10 of any other byte.
 fn digit_value(byte: u8) -> usize
-    ensures { λ r. ⌜ (r ≡ digit-value byte) × (r ≤ 10) ⌝ }
+    ensures value { λ r. ⌜ r ≡ digit-value byte ⌝ }
+    ensures small { λ r. ⌜ r ≤ 10 ⌝ }
 {
     if byte < 48 {
         return 10;
@@ -117,7 +118,8 @@ pub fn read_number(field: &[u8]) -> Number
 
 // The value of a lower-case hex digit; 16 of any other byte.
 fn hex_value(byte: u8) -> u8
-    ensures { λ r. ⌜ (r ≡ hex-value byte) × (r ≤ 16) ⌝ }
+    ensures value { λ r. ⌜ r ≡ hex-value byte ⌝ }
+    ensures small { λ r. ⌜ r ≤ 16 ⌝ }
 {
     if byte < 48 {
         return 16;
@@ -169,8 +171,8 @@ fn unpack(field: &[u8], out: &mut [u8])
 // A string of bytes in lower-case hex, `-` for the empty one, decoded into a lent buffer. Where the field is not right, or the buffer
 // has no room, nothing is written.
 pub fn decode(field: &[u8], out: &mut [u8]) -> Decoded
-    ensures { λ r. ⌜ Counts (r .length) (now (out .exit)) ⌝ }
-    ensures { λ r. ⌜ Decodes (now (field .entry)) (now (out .entry)) (now (out .exit)) r ⌝ }
+    ensures within { λ r. ⌜ Counts (r .length) (now (out .exit)) ⌝ }
+    ensures decoded { λ r. ⌜ Decodes (now (field .entry)) (now (out .entry)) (now (out .exit)) r ⌝ }
 {
     let n = field.len();
     if n == 0 {

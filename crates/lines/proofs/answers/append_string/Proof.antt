@@ -7,10 +7,16 @@ use Rattle.lines.proofs.answers.append_string.Statement.{statement}
 use Rattle.lines.proofs.answers.append_string.Tie as tie
 
 returns : tie.Need-returns
-returns c = appended-same _ _ _ _ _ _ (no-bytes (c .before .before .before .before .before .before .before .before .before .before .before .args .bytes .now) (c .before .before .before .before .if1 .taken)) (appended-then _ _ _ _ _ _ _ _ (c .before .before .before .before .before .before .before .append-byte .ensures) (c .before .before .append-byte2 .ensures))
+returns c =
+    let s = c .before .before .before .before in
+    let t = s .before .before .before in
+    appended-same _ _ _ _ _ _ (no-bytes (t .before .before .before .before .args .bytes .now) (s .if1 .taken)) (appended-then _ _ _ _ _ _ _ _ (t .append-byte .ensures) (c .before .before .append-byte2 .ensures))
 
 returns-2 : tie.Need-returns-2
-returns-2 c = appended-same _ _ _ _ _ _ (some-bytes (c .before .before .before .before .before .before .before .before .before .before .before .args .bytes .now) (c .before .before .before .before .if1 .left)) (appended-then _ _ _ _ _ _ _ _ (c .before .before .before .before .before .before .before .append-byte .ensures) (c .before .before .append-hex .ensures))
+returns-2 c =
+    let s = c .before .before .before .before in
+    let t = s .before .before .before in
+    appended-same _ _ _ _ _ _ (some-bytes (t .before .before .before .before .args .bytes .now) (s .if1 .left)) (appended-then _ _ _ _ _ _ _ _ (t .append-byte .ensures) (c .before .before .append-hex .ensures))
 
 pub append-string-spec : {M : Type 1} → statement M
 append-string-spec = tie.close (tie.spec (λ c κs. search needs) (λ c κs. search needs) (λ c. search needs) returns (λ c κs. search needs) (λ c. search needs) returns-2)
