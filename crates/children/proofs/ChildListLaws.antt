@@ -15,7 +15,7 @@ use Rattle.model.specs.Crews.{in-class}
 use Rattle.model.specs.Commands.{Sent, run-part}
 use Rattle.model.proofs.Words.{and-left, and-right}
 use Rattle.model.proofs.RunLaws.{part-size, part-sends}
-use Rattle.children.specs.ChildList.{children-of, list-right, sent-bytes}
+use Rattle.children.specs.ChildList.{children-of, list-right, pairs, sent-bytes}
 
 -- two bytes for each child
 pub half : (l : List ℕ) → 2 * length (children-of l) ≤ length l
@@ -30,6 +30,12 @@ unfolding list-right
 children-most c l e =
     let x = leb-true (length l) (2 * 4096) (and-left (leb (length l) (2 * 4096)) (every (in-class c) (children-of l)) (and-right (eqb (length l % 2) 0) (leb (length l) (2 * 4096) && every (in-class c) (children-of l)) e)) in
     omega (arith, half l)
+
+-- two bytes for each child of a list that is written
+pub pairs-length : (ks : List Child) → length (pairs ks) ≡ 2 * length ks
+unfolding pairs
+pairs-length [] = refl
+pairs-length (k ∷ ks) = omega (arith, pairs-length ks)
 
 -- three bytes for each command sent
 pub three-each : (sent : List Sent) → length (sent-bytes sent) ≡ 3 * length sent

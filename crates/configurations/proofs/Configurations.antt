@@ -1,14 +1,17 @@
--- Every child list that fits has a configuration with the same occupied names, and the list of a configuration fits exactly if it is not skipped.
+-- Laws about specs/Configurations.antt: every child list that fits has a configuration with the same occupied names, the list of a
+-- configuration fits exactly if it is not skipped, and it has a child for each set bit.
 -- Assumes nothing.
-use Prim.Native.Nat.{ℕ, suc, _+_, _*_, _/_, _%_, _^_, _<_}
+use Prim.Native.Nat.{ℕ, suc, _+_, _*_, _/_, _%_, _^_, _<_, _≤_}
 use native.Mathlib.Omega.{arith}
-use mathlib.Core.Path.{_≡_, refl, _∙_, subst}
+use native.Mathlib.Nat.{pow-suc}
+use mathlib.Core.Path.{_≡_, refl, sym, ap, _∙_, subst}
 use mathlib.Core.Bool.{Bool, true, false, _&&_, _||_, not}
 use mathlib.Core.List.{List, [], _∷_, List·Memᴰ, List·Memᴰ·head, List·Memᴰ·tail, List·Memᴰ·not-nil, List·Memᴰ·cases-cons}
 use mathlib.Core.Logic.{_⊎_, inl, inr}
+use lib.Count.{ones, ones-step}
 use lib.Dec.{eqb, ltb}
 use lib.ListN.{length, getD}
-use borrow.Author.Tests.{ltb-true, lt-ltb, eq-eqb, ne-eqb}
+use borrow.Author.Tests.{ltb-true, lt-ltb, eq-eqb, ne-eqb, eqb-true, eqb-false}
 use Rattle.model.specs.Words.{kept, keep, every, listed, has}
 use Rattle.model.specs.Tree.{Child, Class}
 use Rattle.model.specs.Crews.{child-classes, in-class, belongs, occurs, all-occur, fits, occupied, Same}
@@ -160,3 +163,25 @@ module _ (c : Class) (present : ℕ) where
   -- some configuration is not skipped
   pub some-counts : Sound c → (k : ℕ) × (k < 2 ^ name-count c present) × (counts c present k ≡ true)
   some-counts s = let (k, l, same, t) = configured (cells c present) (cells-fit s) in (k, l, t)
+
+-- a configuration's list has a child for each set bit
+pub chosen-length : (xs : List Child) (k : ℕ) → k < 2 ^ length xs → length (chosen xs k) ≡ ones k
+unfolding chosen ones
+chosen-length [] k h = let z : k ≡ 0 = omega (arith, h) in ap ones (sym z)
+chosen-length (x ∷ xs) k h =
+    let p : 2 ^ suc (length xs) ≡ 2 ^ length xs * 2 = pow-suc 2 (length xs) in
+    go (eqb (k % 2) 1) refl (chosen-length xs (k / 2) (omega arith)) (ones-step k)
+  where
+    go : (b : Bool) → eqb (k % 2) 1 ≡ b → length (chosen xs (k / 2)) ≡ ones (k / 2) → ones k ≡ k % 2 + ones (k / 2) → length (kept b x (chosen xs (k / 2))) ≡ ones k
+    go true e r s = omega (arith, r, s, eqb-true (k % 2) 1 e)
+    go false e r s = let z : k % 2 ≡ 0 = omega (arith, eqb-false (k % 2) 1 e) in omega (arith, r, s)
+
+-- and no more children than there are cells
+pub chosen-most : (xs : List Child) (k : ℕ) → length (chosen xs k) ≤ length xs
+unfolding chosen
+chosen-most [] k = omega arith
+chosen-most (x ∷ xs) k = go (eqb (k % 2) 1) (chosen-most xs (k / 2))
+  where
+    go : (b : Bool) → length (chosen xs (k / 2)) ≤ length xs → length (kept b x (chosen xs (k / 2))) ≤ suc (length xs)
+    go true r = omega arith
+    go false r = omega arith

@@ -1,19 +1,18 @@
 -- What the loop question's reply writes: a pair for each set bit of a loop's configuration, at most twenty.
 -- Assumes nothing.
-use Prim.Native.Nat.{ℕ, suc, _+_, _*_, _/_, _%_, _^_, _<_, _≤_}
+use Prim.Native.Nat.{ℕ, _*_, _^_, _≤_}
 use native.Mathlib.Omega.{arith}
-use native.Mathlib.Nat.{pow-suc}
-use mathlib.Core.Path.{_≡_, refl, sym, _∙_, ap}
+use mathlib.Core.Path.{_≡_, refl, _∙_, ap}
 use mathlib.Core.Bool.{Bool, true, false}
 use mathlib.Core.List.{List, [], _∷_}
 use mathlib.Core.Option.{Option, none, some}
-use lib.Count.{ones, ones-step}
+use lib.Count.{ones}
 use lib.Dec.{eqb, leb}
 use lib.ListN.{length, take, drop}
 use lib.Seq.{take-at}
-use borrow.Author.Tests.{leb-true, eqb-true, eqb-false}
-use Rattle.model.specs.Words.{maybe, kept, least, greatest}
-use Rattle.model.specs.Tree.{Child, Class}
+use borrow.Author.Tests.{leb-true}
+use Rattle.model.specs.Words.{maybe, least, greatest}
+use Rattle.model.specs.Tree.{Class}
 use Rattle.model.specs.Replies.{Reply, refuse, give, check, numbers, buffer-after}
 use Rattle.model.specs.Answers.{loop-numbers}
 use Rattle.model.specs.declared.LoopAnswer.{LoopAnswer}
@@ -23,38 +22,12 @@ use Rattle.model.proofs.Words.{clash, least-some}
 use Rattle.sheet.specs.Rules.{refusal}
 use Rattle.sheet.specs.Reading.{class-of}
 use Rattle.sheet.specs.Asked.{on-sheet}
-use Rattle.children.specs.ChildList.{pairs}
+use Rattle.children.proofs.ChildListLaws.{pairs-length}
 use Rattle.configurations.specs.Configurations.{cells, name-count, chosen, list-of}
+use Rattle.configurations.proofs.Configurations.{chosen-length, chosen-most}
 use Rattle.configurations.specs.LoopAnswer.{Loops, loop, free, has-loop, longest-in, loop-in, loop-answer}
 use Rattle.loops.specs.LoopQuestion.{present-right, bytes-of-loops, reply-loop, loops-values}
 use Rattle.loopcheck.specs.Line.{all-present, loop-reply, bytes-of, children-in}
-
--- a configuration's list has a child for each set bit
-chosen-length : (xs : List Child) (k : ℕ) → k < 2 ^ length xs → length (chosen xs k) ≡ ones k
-unfolding chosen ones
-chosen-length [] k h = let z : k ≡ 0 = omega (arith, h) in ap ones (sym z)
-chosen-length (x ∷ xs) k h =
-    let p : 2 ^ suc (length xs) ≡ 2 ^ length xs * 2 = pow-suc 2 (length xs) in
-    go (eqb (k % 2) 1) refl (chosen-length xs (k / 2) (omega arith)) (ones-step k)
-  where
-    go : (b : Bool) → eqb (k % 2) 1 ≡ b → length (chosen xs (k / 2)) ≡ ones (k / 2) → ones k ≡ k % 2 + ones (k / 2) → length (kept b x (chosen xs (k / 2))) ≡ ones k
-    go true e r s = omega (arith, r, s, eqb-true (k % 2) 1 e)
-    go false e r s = let z : k % 2 ≡ 0 = omega (arith, eqb-false (k % 2) 1 e) in omega (arith, r, s)
-
--- and no more children than there are cells
-chosen-most : (xs : List Child) (k : ℕ) → length (chosen xs k) ≤ length xs
-unfolding chosen
-chosen-most [] k = omega arith
-chosen-most (x ∷ xs) k = go (eqb (k % 2) 1) (chosen-most xs (k / 2))
-  where
-    go : (b : Bool) → length (chosen xs (k / 2)) ≤ length xs → length (kept b x (chosen xs (k / 2))) ≤ suc (length xs)
-    go true r = omega arith
-    go false r = omega arith
-
-pairs-length : (ks : List Child) → length (pairs ks) ≡ 2 * length ks
-unfolding pairs
-pairs-length [] = refl
-pairs-length (k ∷ ks) = omega (arith, pairs-length ks)
 
 -- the bytes are n pairs, at most twenty
 pub record Paired (bytes : List ℕ) (n : ℕ) : Type 0 where

@@ -44,7 +44,7 @@ module _ (b after : List ℕ) (a : LoopAnswer) (h : Answered loops-values (loop-
       let back : take (2 * n) after ≡ bytes-of (loop-reply b room) = read-back (loop-reply b room) n p room after (h .buffer-is) in
       let e : loopcheck-line (loop-numbers a) (take (2 * n) after) ≡ line b = ap₂ loopcheck-line (h .numbers-are) back in
       text-printed b l m (loopcheck-line (loop-numbers a) (take (2 * n) after)) r
-      (omega (arith, line-fits a (take (2 * n) after) (omega (arith, ap length back, p .size, p .few)), size)) e
+      (omega (arith, line-fits a (take (2 * n) after) (omega (arith, length-take (2 * n) after, p .few)), size)) e
 
 -- the line lies within the buffer
 pub printed-fits : (b l m : List ℕ) (r : ℕ) → Printed b l m r → (r ≤ length m) × (r ≡ length (take r m))
