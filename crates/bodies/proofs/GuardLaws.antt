@@ -4,18 +4,18 @@ use Prim.Native.Nat.{ℕ, zero, suc, _+_, _-_, _/_, _<_, _≤_}
 use native.Mathlib.Omega.{arith}
 use native.Mathlib.Numerals.{sub-one}
 use mathlib.Core.Path.{_≡_, refl, sym, _∙_, ap, subst}
-use mathlib.Core.Bool.{Bool, true, false}
+use mathlib.Core.Bool.{Bool, true, false, _&&_, not}
 use mathlib.Core.Logic.{_⊎_, inl, inr}
 use mathlib.Core.List.{List}
 use denote.Enum.Declared.{tagOf}
-use lib.Dec.{leb}
+use lib.Dec.{eqb, leb}
 use lib.ListN.{length}
 use borrow.Author.Tests.{lt-ltb, le-ltb, le-leb, lt-leb, ne-eqb}
 use Rattle.model.specs.Words.{choose}
 use Rattle.model.specs.Tree.{Pattern, Kind, all-not-in, Guard, both, either, opposite}
 use Rattle.model.proofs.Words.{clash, true-not-false, lt-or-le}
-use Rattle.bodies.specs.Bytes.{byte, u32, record-at}
-use Rattle.bodies.specs.GuardRecords.{pattern-of, atom-right, operator-right, record-right, Read, got, broken, by-read, is-read, Operator, two, one, Record, leaf, operator, unknown, atom-kind, operator-of, record-of, guard-record, joined, shaped, guard-with, guard-at, operands, guard-from}
+use Rattle.bodies.specs.Bytes.{byte, u16, u32, record-at}
+use Rattle.bodies.specs.GuardRecords.{pattern-right, pattern-of, atom-right, operator-right, record-right, Read, got, broken, by-read, is-read, Operator, two, one, Record, leaf, operator, unknown, atom-kind, operator-of, record-of, guard-record, joined, shaped, guard-with, guard-at, operands, guard-from}
 use Rattle.bodies.specs.Records.{operator-as}
 use Rattle.bodies.specs.Ends.{end-of}
 use Rattle.bodies.specs.declared.guards.Operator.{Operator as ReadOperator}
@@ -205,3 +205,8 @@ ends-read gs i e h = let (g, p) = end-got 16 gs i e h in rw p
 pub ends-broken : (gs : List ℕ) (i : ℕ) → end-of (guard-at 16 gs i) ≡ Broken → is-read (guard-from gs i) ≡ false
 unfolding guard-from
 ends-broken gs i h = rw (end-broken 16 gs i h)
+
+-- an atom's layout, of what the byte readers give
+pub atom-told : (K : ℕ) (r : List ℕ) (x zeros names : ℕ) (p : Bool) → x ≡ byte r 1 → p ≡ pattern-right K x → zeros ≡ u16 r 2 → names ≡ u32 r 4
+    → (p && (eqb zeros 0 && not (eqb names 0))) ≡ atom-right K r
+atom-told K r x zeros names p ex ep ez en = rw (ep, ex, ez, en)

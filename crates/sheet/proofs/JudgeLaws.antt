@@ -1,6 +1,6 @@
 -- Laws for the judge's checks: the table of bodies, where the bodies lie, and the rules in their order.
 -- Assumes nothing.
-use Prim.Native.Nat.{ℕ, zero, suc, _+_, _-_, _<_, _≤_}
+use Prim.Native.Nat.{ℕ, zero, suc, _+_, _-_, _/_, _%_, _<_, _≤_}
 use native.Mathlib.Omega.{arith}
 use mathlib.Core.Path.{_≡_, refl, sym, ap, _∙_}
 use mathlib.Core.Bool.{Bool, true, false, _&&_, _||_, not}
@@ -11,7 +11,7 @@ use lib.ListN.{length}
 use borrow.Author.Tests.{eq-eqb, ne-eqb, not-true, not-false, eqb-true, lt-ltb, le-ltb, lt-leb, le-leb}
 use Rattle.model.specs.Words.{each}
 use Rattle.model.proofs.Words.{clash, and-right, lt-or-le, each-broken}
-use Rattle.sheet.specs.Contents.{record-bytes, start, size, length-right, bodies-follow, counts-in-range, contents-right, Bodies}
+use Rattle.sheet.specs.Contents.{record-bytes, fewest, most, start, size, count-right, length-right, bodies-follow, counts-in-range, contents-right, Bodies}
 use Rattle.bodies.specs.Clauses.{in-fours, in-eights, count-sum}
 use Rattle.sheet.specs.Rules.{checked, refusal-in, refusal}
 use Rattle.bodies.specs.BodyRules.{classes-right, counts-right, records-right, guards-right, targets-right, actions-plain, commands-apart, actions-right, statements-right}
@@ -27,6 +27,11 @@ some-bytes (suc (suc (suc zero))) l = omega arith
 some-bytes (suc (suc (suc (suc zero)))) l = omega arith
 some-bytes (suc (suc (suc (suc (suc zero))))) l = omega arith
 some-bytes (suc (suc (suc (suc (suc (suc k)))))) l = absurd (omega arith)
+
+-- a body's count, of the table that the code has and of the length that it reads
+pub count-told : (b : List ℕ) (k bytes least largest n : ℕ) → bytes ≡ record-bytes k → least ≡ fewest k → largest ≡ most k → n ≡ size b k
+    → (eqb (n % bytes) 0 && (leb least (n / bytes) && leb (n / bytes) largest)) ≡ count-right b k
+count-told b k bytes least largest n eb el em en = rw (en, eb, el, em)
 
 -- the body behind body k starts where k ends
 abbrev pub follows : List ℕ → ℕ → Bool
