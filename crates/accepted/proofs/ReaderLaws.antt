@@ -7,7 +7,7 @@ use mathlib.Core.Bool.{true}
 use mathlib.Core.List.{List}
 use lib.ListN.{length, take, drop}
 use Rattle.sheet.specs.Contents.{start, size, body, contents-right, bodies}
-use Rattle.bodies.specs.Clauses.{in-fours}
+use Rattle.records.specs.Bytes.{in-fours}
 use Rattle.sheet.specs.Verdict.{places-of, Stands}
 use Rattle.accepted.specs.Runs.{place-at}
 use Rattle.sheet.specs.declared.judging.Places.{Places}

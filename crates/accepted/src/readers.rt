@@ -6,13 +6,13 @@ use crate::held::body_in;
 use crate::held::hold;
 use bodies::clauses::count_at;
 use bodies::clauses::count_sum;
-use bodies::words::in_fours;
 use model::OwnState;
+use records::words::in_fours;
 use sheet::judging::Places;
 ghost use mathlib.Core.Path.{_≡_};
 ghost use Prim.Native.Nat.{_<_, _≤_};
 ghost use Rattle.sheet.specs.Contents.{body};
-ghost use Rattle.bodies.specs.Clauses.{in-fours};
+ghost use Rattle.records.specs.Bytes.{in-fours};
 ghost use Rattle.sheet.specs.Verdict.{Stands};
 ghost use Rattle.accepted.specs.Runs.{RunIs};
 

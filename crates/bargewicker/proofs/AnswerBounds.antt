@@ -17,8 +17,9 @@ use Rattle.model.proofs.Moves.{after-within}
 use Rattle.model.proofs.NodeLaws.{getD-mem, probe-found, turn-runs, next-within}
 use Rattle.model.proofs.RunLaws.{part-size, part-moves, clause-listed}
 use Rattle.model.specs.Words.{Bytes}
-use Rattle.bodies.specs.Clauses.{in-eights, referrer-of}
-use Rattle.bodies.proofs.Bytes.{u16-below}
+use Rattle.bodies.specs.Clauses.{referrer-of}
+use Rattle.records.specs.Bytes.{in-eights}
+use Rattle.records.proofs.Bytes.{u16-below}
 use Rattle.sheet.specs.Contents.{bodies}
 use Rattle.sheet.specs.Rules.{Accepted}
 use Rattle.sheet.specs.Reading.{class-of, when-in, action-in}

@@ -16,7 +16,7 @@ use Rattle.model.specs.Replies.{Reply, refuse}
 use Rattle.model.specs.declared.Refusal.{Refusal}
 use Rattle.model.proofs.Words.{passed, not-passed}
 use Rattle.model.proofs.RefusalLaws.{numbered-from-1}
-use Rattle.bodies.specs.Clauses.{in-fours}
+use Rattle.records.specs.Bytes.{in-fours}
 use Rattle.sheet.specs.Contents.{bodies, body}
 use Rattle.sheet.specs.Reading.{class-of}
 use Rattle.sheet.specs.Verdict.{Stands}

@@ -10,7 +10,7 @@ use Rattle.model.specs.Words.{choose}
 use Rattle.model.specs.Tree.{Class}
 use Rattle.model.specs.Node.{own-states}
 use Rattle.model.specs.Commands.{Sent, Handling, handled, ignored, command}
-use Rattle.bodies.specs.Clauses.{in-fours, in-eights}
+use Rattle.records.specs.Bytes.{in-fours, in-eights}
 use Rattle.bodies.specs.BodyRules.{classes-right, counts-right, records-right, guards-right, targets-right, actions-right, statements-right}
 use Rattle.sheet.specs.Contents.{Bodies, bodies, length-right, contents-right}
 use Rattle.sheet.specs.Reading.{class-of}

@@ -9,8 +9,7 @@ use mathlib.Core.List.{List}
 use lib.Dec.{eqb, ltb}
 use borrow.Author.Tests.{eq-eqb, ne-eqb}
 use Rattle.model.specs.Words.{total}
-use Rattle.model.specs.Tree.{move-to, run, stay, everyone, of-class}
-use Rattle.bodies.specs.GuardRecords.{pattern-of}
+use Rattle.model.specs.Tree.{move-to, run, stay}
 use Rattle.bodies.specs.Clauses.{count-at, count-sum, referrer-number, target, referrer-of}
 use Rattle.bodies.specs.BodyRules.{target-right}
 
@@ -57,13 +56,6 @@ module _ (S a : ℕ) (whens : List ℕ) (w x y : ℕ) (e : x ≡ referrer-number
 
   pub target-stay : (x ≡ 0 → ⊥) → (x ≡ 1 → ⊥) → (eqb x 2 && eqb y 0) ≡ target-right S a whens w
   target-stay z o = rw (e, f, ne-eqb (referrer-number whens w) 0 (λ q. z (e ∙ q)), ne-eqb (referrer-number whens w) 1 (λ q. o (e ∙ q)))
-
--- a pattern's byte is 255 for all children, else a child class
-pub pattern-all : (p x : ℕ) → x ≡ p → x ≡ 255 → everyone ≡ pattern-of p
-pattern-all p x e h = rw (eq-eqb p 255 (sym e ∙ h))
-
-pub pattern-one : (p x y : ℕ) → x ≡ p → (x ≡ 255 → ⊥) → y ≡ p → of-class y ≡ pattern-of p
-pattern-one p x y e h f = rw (ne-eqb p 255 (λ q. h (e ∙ q)), f)
 
 -- a target is judged in its state, whose numbers were read before
 pub target-in : (S : ℕ) (whens : List ℕ) (i : ℕ) {a a′ f f′ : ℕ} → a ≡ a′ → f ≡ f′ → target-right S a whens (f + i) ≡ target-right S a′ whens (f′ + i)

@@ -1,10 +1,7 @@
 pub mod Computing
-pub mod Bytes
-pub mod GuardLaws
 pub mod CheckLaws
 pub mod ReaderLaws
 pub mod Parts
 pub mod PartLaws
 pub mod StatementLaws
 pub mod ReadLaws
-pub mod Unique

@@ -10,12 +10,12 @@ use lib.ListN.{length, take, drop, length-drop}
 use lib.Seq.{getD-take, drop-drop}
 use Rattle.model.specs.Words.{maybe, is-some}
 use Rattle.model.specs.Tree.{Statement, Part, end, _then_}
-use Rattle.bodies.specs.Bytes.{byte, records}
+use Rattle.records.specs.Bytes.{byte, records}
 use Rattle.bodies.specs.StatementRecords.{part-length, statement-from, part-with, part-at}
 use Rattle.bodies.specs.StatementReaders.{statement-record, records-beside, behind-statement}
 use Rattle.bodies.specs.PartChecks.{part-right, parts-of, statement-right}
 use Rattle.bodies.specs.declared.statements.StatementRecord.{StatementRecord}
-use Rattle.bodies.proofs.Bytes.{length-records, u16-take, whole, drop-whole, whole-front}
+use Rattle.records.proofs.Bytes.{length-records, u16-take, whole, drop-whole, whole-front}
 use Rattle.bodies.proofs.ReaderLaws.{length-told}
 
 -- something is made of two values exactly if both are there

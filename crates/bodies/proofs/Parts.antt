@@ -12,13 +12,14 @@ use Rattle.model.specs.Tree.{Guard, Pattern, Statement, send, go-to, branch, Pa
 use Rattle.model.specs.Sound.{statement-within, part-within}
 use Rattle.model.proofs.Words.{and-left, and-both}
 use Rattle.model.proofs.RunLaws.{one-size, part-size}
-use Rattle.bodies.specs.Bytes.{byte, u16, u32, records}
-use Rattle.bodies.specs.GuardRecords.{guard-from}
+use Rattle.records.specs.Bytes.{byte, u16, u32, records}
+use Rattle.records.specs.GuardRecords.{guard-from}
 use Rattle.bodies.specs.StatementRecords.{do-right, move-right, then-length, else-length, part-length, if-from, statement-from, part-with, part-at}
-use Rattle.bodies.specs.Clauses.{in-eights, statement-count, first-statement, statements-of, body-of}
-use Rattle.bodies.proofs.Bytes.{length-records}
+use Rattle.bodies.specs.Clauses.{statement-count, first-statement, statements-of, body-of}
+use Rattle.records.specs.Bytes.{in-eights}
+use Rattle.records.proofs.Bytes.{length-records}
 use Rattle.model.proofs.Words.{choose-case, maybe-case}
-use Rattle.bodies.proofs.GuardLaws.{read-case}
+use Rattle.records.proofs.GuardLaws.{read-case}
 
 -- what holds of a value, if there is one
 abbrev pub Of {ℓ} : {A : Type ℓ} → (A → Type 0) → Option A → Type 0

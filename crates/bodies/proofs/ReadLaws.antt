@@ -12,17 +12,17 @@ use Rattle.model.specs.Words.{choose, maybe}
 use Rattle.model.specs.Tree.{Guard, Statement, send, go-to, branch, Part, end, _then_}
 use Rattle.model.specs.declared.OwnState.{OwnState}
 use Rattle.model.proofs.Words.{clash, lt-or-le}
-use Rattle.bodies.specs.Bytes.{byte}
-use Rattle.bodies.specs.GuardRecords.{Read, got, broken, by-read, guard-from}
-use Rattle.bodies.specs.Patterns.{pattern-as}
+use Rattle.records.specs.Bytes.{byte}
+use Rattle.records.specs.GuardRecords.{Read, got, broken, by-read, guard-from}
+use Rattle.records.specs.Patterns.{pattern-as}
 use Rattle.bodies.specs.StatementRecords.{do-right, move-right}
 use Rattle.bodies.specs.StatementReaders.{statement-record, records-beside, then-part, else-part, behind-statement}
 use Rattle.bodies.specs.PartChecks.{parts-of, Reads}
-use Rattle.bodies.specs.declared.kinds.Pattern.{Pattern}
+use Rattle.records.specs.declared.kinds.Pattern.{Pattern}
 use Rattle.bodies.specs.declared.statements.Branch.{Branch}
 use Rattle.bodies.specs.declared.statements.StatementRecord.{StatementRecord}
 use Rattle.bodies.specs.declared.statements.StatementRecord.the-variants.{Do, MoveTo, If, Unknown}
-use Rattle.bodies.proofs.Bytes.{whole}
+use Rattle.records.proofs.Bytes.{whole}
 use Rattle.bodies.proofs.ReaderLaws.{told}
 use Rattle.bodies.proofs.PartLaws.{part-of, first-of, part-empty, part-cut, part-step}
 use Rattle.bodies.proofs.StatementLaws.{if-made, made, statement-made}

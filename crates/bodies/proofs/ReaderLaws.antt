@@ -14,13 +14,13 @@ use Rattle.model.specs.Words.{choose}
 use Rattle.model.specs.Tree.{everyone, of-class}
 use Rattle.model.specs.declared.OwnState.{OwnState}
 use Rattle.model.proofs.Words.{clash}
-use Rattle.bodies.specs.Bytes.{byte, u16, records-from}
-use Rattle.bodies.specs.GuardRecords.{pattern-of}
-use Rattle.bodies.specs.Patterns.{pattern-as, pattern-read}
+use Rattle.records.specs.Bytes.{byte, u16, records-from}
+use Rattle.records.specs.GuardRecords.{pattern-of}
+use Rattle.records.specs.Patterns.{pattern-as, pattern-read}
 use Rattle.bodies.specs.StatementRecords.{part-length}
 use Rattle.bodies.specs.StatementReaders.{by-kind, statement-record, records-beside, behind-statement}
-use Rattle.bodies.specs.declared.kinds.Pattern.{Pattern}
-use Rattle.bodies.specs.declared.kinds.Pattern.the-variants.{Everyone, OfClass}
+use Rattle.records.specs.declared.kinds.Pattern.{Pattern}
+use Rattle.records.specs.declared.kinds.Pattern.the-variants.{Everyone, OfClass}
 use Rattle.bodies.specs.declared.statements.StatementRecord.{StatementRecord}
 use Rattle.bodies.specs.declared.statements.StatementRecord.the-variants.{Do, MoveTo, If, Unknown}
 

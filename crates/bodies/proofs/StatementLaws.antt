@@ -14,18 +14,18 @@ use borrow.Author.Tests.{ne-eqb}
 use Rattle.model.specs.Words.{choose, maybe, is-some, total}
 use Rattle.model.specs.Tree.{Guard, Statement, send, go-to, branch, Part}
 use Rattle.model.specs.declared.OwnState.{OwnState}
-use Rattle.bodies.specs.Bytes.{byte}
-use Rattle.bodies.specs.GuardRecords.{Read, got, broken, is-read, by-read, guard-from}
-use Rattle.bodies.specs.Patterns.{pattern-as}
+use Rattle.records.specs.Bytes.{byte}
+use Rattle.records.specs.GuardRecords.{Read, got, broken, is-read, by-read, guard-from}
+use Rattle.records.specs.Patterns.{pattern-as}
 use Rattle.bodies.specs.StatementRecords.{do-right, move-right, if-from, statement-from, part-at}
 use Rattle.bodies.specs.StatementReaders.{statement-record, then-part, else-part}
 use Rattle.bodies.specs.Clauses.{count-sum, first-statement, statement-count, statement-bytes, statements-of, body-of}
 use Rattle.bodies.specs.PartChecks.{part-right, parts-of, statement-right}
-use Rattle.bodies.specs.declared.kinds.Pattern.{Pattern}
+use Rattle.records.specs.declared.kinds.Pattern.{Pattern}
 use Rattle.bodies.specs.declared.statements.Branch.{Branch}
 use Rattle.bodies.specs.declared.statements.StatementRecord.{StatementRecord}
 use Rattle.bodies.specs.declared.statements.StatementRecord.the-variants.{Do, MoveTo, If, Unknown}
-use Rattle.bodies.proofs.Bytes.{u16-take, u32-take, whole, from-whole}
+use Rattle.records.proofs.Bytes.{u16-take, u32-take, whole, from-whole}
 use Rattle.bodies.proofs.ReaderLaws.{Told, told}
 use Rattle.bodies.proofs.PartLaws.{both-there, front, right-first}
 

@@ -5,9 +5,10 @@ use mathlib.Core.Bool.{Bool, _&&_, not}
 use mathlib.Core.List.{List}
 use lib.Dec.{eqb, leb, ltb}
 use Rattle.model.specs.Words.{choose, is-some, each}
-use Rattle.bodies.specs.Bytes.{record-at}
-use Rattle.bodies.specs.GuardRecords.{record-right, guard-from, is-read}
-use Rattle.bodies.specs.Clauses.{in-fours, in-eights, count-sum, name-set, when-count, action-count, first-when, first-action, guard-place, referrer-number, target, action-command, action-zero, body-of}
+use Rattle.records.specs.Bytes.{record-at}
+use Rattle.records.specs.GuardRecords.{record-right, guard-from, is-read}
+use Rattle.bodies.specs.Clauses.{count-sum, name-set, when-count, action-count, first-when, first-action, guard-place, referrer-number, target, action-command, action-zero, body-of}
+use Rattle.records.specs.Bytes.{in-fours, in-eights}
 
 -- 3: no child class has an empty set
 unfoldable pub classes-right : List ℕ → Bool

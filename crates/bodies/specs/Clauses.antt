@@ -6,16 +6,8 @@ use mathlib.Core.Option.{Option}
 use lib.ListN.{length, getD, take, drop}
 use Rattle.model.specs.Words.{total}
 use Rattle.model.specs.Tree.{Referrer, move-to, run, stay, Part}
-use Rattle.bodies.specs.Bytes.{byte, u16, u32, records, records-from}
+use Rattle.records.specs.Bytes.{byte, u16, u32, records, records-from, in-eights}
 use Rattle.bodies.specs.StatementRecords.{part-at}
-
--- how many records of 4 bytes a body has: child classes (K), states (S), when clauses (W), action clauses (A)
-abbrev pub in-fours : List ℕ → ℕ
-in-fours b = length b / 4
-
--- how many records of 8 bytes: guard records (G), statements (T)
-abbrev pub in-eights : List ℕ → ℕ
-in-eights b = length b / 8
 
 -- the count that record i, of 4 bytes, holds at an offset, and the sum over the first n records
 abbrev pub count-at : List ℕ → ℕ → ℕ → ℕ

@@ -1,11 +1,5 @@
-pub mod Bytes
-pub mod GuardRecords
-pub mod Ends
 pub mod StatementRecords
 pub mod StatementReaders
 pub mod PartChecks
 pub mod Clauses
-pub mod Patterns
-pub mod Records
 pub mod BodyRules
-pub mod Unique

@@ -8,7 +8,7 @@ use mathlib.Core.Option.{Option, none, some}
 use lib.ListN.{length, take, drop}
 use Rattle.model.specs.Words.{is-some}
 use Rattle.model.specs.Tree.{Part}
-use Rattle.bodies.specs.Bytes.{records}
+use Rattle.records.specs.Bytes.{records}
 use Rattle.bodies.specs.StatementRecords.{statement-from, part-at}
 
 -- it reads as a part, with ifs at most d deep

@@ -5,8 +5,8 @@ use mathlib.Core.List.{List, [], _∷_}
 use lib.Dec.{ltb}
 use lib.ListN.{length, getD, drop}
 use Rattle.model.specs.Words.{choose}
-use Rattle.bodies.specs.Bytes.{byte, u16, records-from}
-use Rattle.bodies.specs.Patterns.{pattern-read}
+use Rattle.records.specs.Bytes.{byte, u16, records-from}
+use Rattle.records.specs.Patterns.{pattern-read}
 use Rattle.bodies.specs.declared.statements.Branch.{Branch}
 use Rattle.bodies.specs.declared.statements.StatementRecord.{StatementRecord}
 use Rattle.bodies.specs.declared.statements.StatementRecord.the-variants.{Do, MoveTo, If, Unknown}

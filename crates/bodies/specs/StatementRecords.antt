@@ -8,8 +8,8 @@ use lib.Dec.{eqb, leb, ltb}
 use lib.ListN.{take, drop}
 use Rattle.model.specs.Words.{choose, maybe}
 use Rattle.model.specs.Tree.{Statement, send, go-to, branch, Part, end, _then_}
-use Rattle.bodies.specs.Bytes.{byte, u16, u32}
-use Rattle.bodies.specs.GuardRecords.{pattern-right, pattern-of, guard-from, by-read}
+use Rattle.records.specs.Bytes.{byte, u16, u32}
+use Rattle.records.specs.GuardRecords.{pattern-right, pattern-of, guard-from, by-read}
 
 -- kind 0, do: a command 0 to 63, a pattern, the rest 0
 abbrev pub do-right : ℕ → List ℕ → Bool

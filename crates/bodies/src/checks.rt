@@ -6,15 +6,16 @@ use crate::clauses::count_at;
 use crate::clauses::count_sum;
 use crate::clauses::guard_place;
 use crate::clauses::name_set;
-use crate::guards::guard_ok;
-use crate::guards::records_ok;
 use crate::statements::body_ok;
 use crate::statements::statements_of;
-use crate::words::byte_at;
+use records::guards::guard_ok;
+use records::guards::record_ok;
+use records::words::byte_at;
+use records::words::record_at;
 ghost use mathlib.Core.Path.{_≡_};
 ghost use Prim.Native.Nat.{_<_, _≤_};
 ghost use lib.ListN.{length};
-ghost use Rattle.bodies.specs.Clauses.{in-fours, in-eights};
+ghost use Rattle.records.specs.Bytes.{in-fours, in-eights};
 ghost use Rattle.bodies.specs.BodyRules.{classes-right, counts-right, records-right, guards-right, target-right, state-targets-right, targets-right, action-right, actions-plain, new-command, none-twice, commands-apart, actions-right, statements-right};
 
 // 3: no child class has an empty set.
@@ -45,10 +46,19 @@ pub fn counts_ok(states: &[u8], whens: &[u8], actions: &[u8]) -> bool
 }
 
 // 5: every guard record keeps its layout.
-pub fn layouts_ok(classes: &[u8], guards: &[u8]) -> bool
+pub fn records_ok(classes: &[u8], guards: &[u8]) -> bool
     ensures { λ r. ⌜ r ≡ records-right (in-fours (now (classes .entry))) (now (guards .entry)) ⌝ }
 {
-    records_ok(classes.len() / 4, guards)
+    let class_count = classes.len() / 4;
+    let n = guards.len() / 8;
+    let mut i = 0;
+    while i < n {
+        if !record_ok(class_count, record_at(guards, i)) {
+            return false;
+        }
+        i = i + 1;
+    }
+    true
 }
 
 // 6: every when clause's guard reads.

@@ -1,10 +1,10 @@
 // The records of 4 bytes: child classes, states, when clauses, action clauses.
-use crate::kinds::own_state_at;
-use crate::words::byte_at;
-use crate::words::narrow_at;
-use crate::words::u16_at;
-use crate::words::u32_at;
 use model::Referrer;
+use records::kinds::own_state_at;
+use records::words::byte_at;
+use records::words::narrow_at;
+use records::words::u16_at;
+use records::words::u32_at;
 ghost use mathlib.Core.Path.{_≡_};
 ghost use Prim.Native.Nat.{_<_, _≤_, _*_};
 ghost use Rattle.bodies.specs.Clauses.{name-set, count-at, count-sum, guard-place, referrer-number, target, action-command, referrer-of};

@@ -15,7 +15,8 @@ use Rattle.model.specs.Crews.{child-classes, in-class}
 use Rattle.model.proofs.Words.{and-left, and-right, and-both, not-not-true, true-not-false, lt-or-le}
 use Rattle.model.proofs.Lists.{every-elim}
 use Rattle.sheet.specs.Contents.{Bodies, body, bodies}
-use Rattle.bodies.specs.Clauses.{in-fours, name-set}
+use Rattle.bodies.specs.Clauses.{name-set}
+use Rattle.records.specs.Bytes.{in-fours}
 use Rattle.children.specs.ChildList.{children-of, list-right}
 use Rattle.sheet.specs.Reading.{class-in, class-of}
 use Rattle.sheet.specs.Rules.{Accepted}

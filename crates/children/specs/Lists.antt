@@ -7,7 +7,8 @@ use lib.Dec.{eqb, leb, ltb}
 use lib.ListN.{length}
 use Rattle.model.specs.Words.{has, every}
 use Rattle.model.specs.Tree.{Child}
-use Rattle.bodies.specs.Clauses.{in-fours, name-set}
+use Rattle.bodies.specs.Clauses.{name-set}
+use Rattle.records.specs.Bytes.{in-fours}
 use Rattle.children.specs.ChildList.{children-of}
 
 -- the class is below K, the name is below 32 and in its class

@@ -1,13 +1,13 @@
 // A crew as one name set per child class: bit n of set i says that some child of class i has name n.
-use bodies::kinds::Pattern;
-use bodies::kinds::class_at;
-use bodies::kinds::name_at;
 use model::ChildName;
+use records::kinds::Pattern;
+use records::kinds::class_at;
+use records::kinds::name_at;
 ghost use mathlib.Core.Path.{_≡_};
 ghost use Prim.Native.Nat.{_^_, _<_};
 ghost use lib.Bits.{bitOr};
 ghost use Rattle.model.specs.Words.{has};
-ghost use Rattle.bodies.specs.Patterns.{pattern-as};
+ghost use Rattle.records.specs.Patterns.{pattern-as};
 ghost use Rattle.children.specs.ChildList.{children-of};
 ghost use Rattle.children.specs.NameSets.{Shows, union-of, Names};
 

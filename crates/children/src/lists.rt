@@ -1,11 +1,11 @@
 // Child lists: pairs of bytes (class, name), checked against the sheet's child classes.
 use crate::crews::has_name;
 use bodies::clauses::name_set;
-use bodies::kinds::class_at;
-use bodies::kinds::name_at;
-use bodies::words::in_fours;
 use model::ChildClass;
 use model::ChildName;
+use records::kinds::class_at;
+use records::kinds::name_at;
+use records::words::in_fours;
 ghost use mathlib.Core.Path.{_≡_};
 ghost use Prim.Native.Nat.{_≤_};
 ghost use lib.ListN.{length};

@@ -22,7 +22,8 @@ use Rattle.model.specs.declared.CommandAnswer.the-variants.{Given, Refused}
 use Rattle.model.proofs.Words.{clash, and-right, lt-or-le, each-elim, least-some, least-none, least-told}
 use Rattle.model.proofs.RunLaws.{part-size}
 use Rattle.sheet.specs.Contents.{body, bodies}
-use Rattle.bodies.specs.Clauses.{in-fours, count-at, count-sum, first-action, action-count, action-command, statement-bytes, body-of}
+use Rattle.bodies.specs.Clauses.{count-at, count-sum, first-action, action-count, action-command, statement-bytes, body-of}
+use Rattle.records.specs.Bytes.{in-fours}
 use Rattle.bodies.specs.PartChecks.{Reads}
 use Rattle.children.specs.ChildList.{children-of, sent-bytes}
 use Rattle.bodies.specs.BodyRules.{counts-right, statements-right}

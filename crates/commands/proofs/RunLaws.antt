@@ -14,11 +14,11 @@ use Rattle.model.specs.Tree.{Child, Guard, Statement, send, branch, Part, _then
 use Rattle.model.specs.Guards.{holds}
 use Rattle.model.specs.Commands as Tree
 use Rattle.model.specs.declared.OwnState.{OwnState}
-use Rattle.bodies.specs.GuardRecords.{got, guard-from}
-use Rattle.bodies.specs.Patterns.{pattern-as}
+use Rattle.records.specs.GuardRecords.{got, guard-from}
+use Rattle.records.specs.Patterns.{pattern-as}
 use Rattle.bodies.specs.PartChecks.{Reads}
 use Rattle.bodies.specs.StatementReaders.{statement-record, then-part, else-part, behind-statement}
-use Rattle.bodies.specs.declared.kinds.Pattern.{Pattern}
+use Rattle.records.specs.declared.kinds.Pattern.{Pattern}
 use Rattle.bodies.specs.declared.statements.Branch.{Branch}
 use Rattle.bodies.specs.declared.statements.StatementRecord.{StatementRecord}
 use Rattle.bodies.specs.declared.statements.StatementRecord.the-variants.{Do, MoveTo, If, Unknown}

@@ -10,7 +10,7 @@ use Rattle.model.specs.Refusals.{number-of}
 use Rattle.model.specs.Replies.{refuse, Answered}
 use Rattle.model.specs.declared.Refusal.{Refusal}
 use Rattle.model.proofs.ReplyLaws.{answered}
-use Rattle.bodies.specs.Clauses.{in-fours}
+use Rattle.records.specs.Bytes.{in-fours}
 use Rattle.sheet.specs.Contents.{bodies, body}
 use Rattle.sheet.specs.Reading.{class-of}
 use Rattle.sheet.specs.Verdict.{verdict-numbers, verdict, Stands}

@@ -18,7 +18,8 @@ use Rattle.model.specs.Unique.{LeavesOne}
 use Rattle.model.proofs.Words.{lt-or-le}
 use Rattle.model.proofs.Lists.{length-listed, getD-listed, getD-past, mem-listed, keep-mem, listed-more, keep-append, listed-same}
 use Rattle.model.proofs.Unique.{equations}
-use Rattle.bodies.specs.Clauses.{in-fours, name-set}
+use Rattle.bodies.specs.Clauses.{name-set}
+use Rattle.records.specs.Bytes.{in-fours}
 use Rattle.children.specs.NameSets.{Small}
 use Rattle.children.proofs.CrewLaws.{shifted}
 use Rattle.configurations.specs.Configurations.{cell}

@@ -17,7 +17,8 @@ use Rattle.model.proofs.Words.{both-ways, lt-or-le, true-not-false, each-intro,
 use Rattle.model.proofs.Lists.{some-in-intro, some-in-elim, keep-append}
 use Rattle.model.proofs.Occupancy.{mem-occupied, occupied-mem}
 use Rattle.sheet.specs.Contents.{body, bodies}
-use Rattle.bodies.specs.Clauses.{in-fours, name-set}
+use Rattle.bodies.specs.Clauses.{name-set}
+use Rattle.records.specs.Bytes.{in-fours}
 use Rattle.sheet.specs.Reading.{class-of}
 use Rattle.sheet.specs.Verdict.{Stands}
 use Rattle.sheet.specs.declared.judging.Places.{Places}

@@ -18,7 +18,7 @@ use Rattle.model.specs.declared.Loops.the-variants.{Loop, Free}
 use Rattle.model.proofs.Words.{passed, not-passed}
 use Rattle.model.proofs.AnswerLaws.{same-loop}
 use Rattle.model.proofs.ReplyLaws.{answered, answered-once}
-use Rattle.bodies.specs.Clauses.{in-fours}
+use Rattle.records.specs.Bytes.{in-fours}
 use Rattle.sheet.specs.Contents.{body}
 use Rattle.sheet.specs.Reading.{class-of}
 use Rattle.sheet.specs.Verdict.{Stands}

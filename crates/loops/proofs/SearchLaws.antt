@@ -20,7 +20,7 @@ use Rattle.model.specs.Node.{own-states, next}
 use Rattle.model.specs.Crews.{child-classes}
 use Rattle.model.proofs.Lists.{length-listed, listed-more}
 use Rattle.sheet.specs.Contents.{body}
-use Rattle.bodies.specs.Clauses.{in-fours}
+use Rattle.records.specs.Bytes.{in-fours}
 use Rattle.children.specs.ChildList.{pairs}
 use Rattle.model.specs.Replies.{written}
 use Rattle.sheet.specs.Reading.{class-of}

@@ -16,7 +16,7 @@ use Rattle.model.proofs.Words.{lt-or-le}
 use Rattle.model.proofs.NodeLaws.{stops-next, moves-next, next-within}
 use Rattle.model.specs.Words.{Bytes}
 use Rattle.sheet.specs.Contents.{body, bodies}
-use Rattle.bodies.specs.Clauses.{in-fours}
+use Rattle.records.specs.Bytes.{in-fours}
 use Rattle.sheet.specs.Reading.{class-of}
 use Rattle.sheet.specs.Verdict.{Stands}
 use Rattle.sheet.specs.declared.judging.Places.{Places}

@@ -8,7 +8,8 @@ use lib.Dec.{eqb, ltb}
 use lib.ListN.{length, getD}
 use Rattle.model.specs.Words.{has, each, keep, listed}
 use Rattle.model.specs.Tree.{Child}
-use Rattle.bodies.specs.Clauses.{in-fours, name-set}
+use Rattle.bodies.specs.Clauses.{name-set}
+use Rattle.records.specs.Bytes.{in-fours}
 use Rattle.children.specs.NameSets.{Shows}
 use Rattle.configurations.specs.Configurations.{cell}
 use Rattle.loops.specs.declared.cells.Cells.{Cells}

@@ -1,10 +1,10 @@
 // The cells of the present classes, one for each bit of a configuration, and a configuration spread into one name set per class.
 use bodies::clauses::name_set;
-use bodies::words::in_fours;
 use children::crews::has_name;
 use children::crews::with_name;
 use model::ChildClass;
 use model::ChildName;
+use records::words::in_fours;
 ghost use mathlib.Core.Path.{_≡_};
 ghost use Prim.Native.Nat.{_<_, _≤_, _/_, _%_};
 ghost use lib.ListN.{getD};

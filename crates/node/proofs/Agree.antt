@@ -15,7 +15,7 @@ use Rattle.model.proofs.Words.{true-not-false, both-ways, and-left, and-right, 
 use Rattle.model.proofs.Lists.{every-elim, every-intro, some-in-elim, some-in-intro}
 use Rattle.model.proofs.Occupancy.{mem-occupied, occupied-mem}
 use Rattle.sheet.specs.Contents.{Bodies}
-use Rattle.bodies.specs.GuardRecords.{Read, got, broken, by-read, guard-from}
+use Rattle.records.specs.GuardRecords.{Read, got, broken, by-read, guard-from}
 use Rattle.sheet.specs.Reading.{guard-in}
 use Rattle.model.proofs.Bits.{has-none}
 use Rattle.node.specs.Sets.{atom-in, holds-in}

@@ -7,7 +7,7 @@ use mathlib.Core.List.{List}
 use Rattle.model.specs.Tree.{Child}
 use Rattle.model.specs.Node as Tree
 use Rattle.sheet.specs.Contents.{body, bodies}
-use Rattle.bodies.specs.Clauses.{in-fours}
+use Rattle.records.specs.Bytes.{in-fours}
 use Rattle.sheet.specs.Reading.{class-of}
 use Rattle.sheet.proofs.Reading.{own-states-in}
 use Rattle.node.specs.Probing.{Turns}

@@ -14,10 +14,11 @@ use Rattle.model.specs.Node.{state-of, nothing, found, first-true, probe, comma
 use Rattle.model.specs.Sound.{ReferrerRight}
 use Rattle.model.proofs.Words.{lt-or-le, below-next, least-some, least-none, least-found, least-not, least-told}
 use Rattle.model.proofs.NodeLaws.{getD-mem, probe-found}
-use Rattle.bodies.specs.Bytes.{byte}
+use Rattle.records.specs.Bytes.{byte}
 use Rattle.sheet.specs.Contents.{body, bodies}
-use Rattle.bodies.specs.Clauses.{in-fours, when-count, action-count, first-action, guard-place, referrer-number, target, action-command, referrer-of}
-use Rattle.bodies.specs.GuardRecords.{guard-from}
+use Rattle.bodies.specs.Clauses.{when-count, action-count, first-action, guard-place, referrer-number, target, action-command, referrer-of}
+use Rattle.records.specs.Bytes.{in-fours}
+use Rattle.records.specs.GuardRecords.{guard-from}
 use Rattle.sheet.specs.Verdict.{Stands}
 use Rattle.sheet.specs.Reading.{when-in, action-in, state-in, class-in, class-of}
 use Rattle.model.specs.Answers.{referrer-as}

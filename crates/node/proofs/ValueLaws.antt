@@ -9,8 +9,8 @@ use lib.Dec.{eqb}
 use Rattle.model.specs.Words.{has, each, some-below}
 use Rattle.model.specs.Tree.{Pattern, Kind, any-in, any-not-in, all-in, all-not-in, Guard, both, either, opposite}
 use Rattle.model.proofs.Words.{clash}
-use Rattle.bodies.specs.GuardRecords.{Read, got, broken, Operator, two, one, Record, leaf, guard-record, joined, shaped, guard-at, operands, guard-from}
-use Rattle.bodies.proofs.GuardLaws.{read-as, joined-deep, joined-first, joined-one, joined-second, joined-two, read-behind}
+use Rattle.records.specs.GuardRecords.{Read, got, broken, Operator, two, one, Record, leaf, guard-record, joined, shaped, guard-at, operands, guard-from}
+use Rattle.records.proofs.GuardLaws.{read-as, joined-deep, joined-first, joined-one, joined-second, joined-two, read-behind}
 use Rattle.node.specs.Sets.{atom-in, holds-in}
 use Rattle.children.specs.NameSets.{Names}
 use Rattle.node.specs.Values.{value-of, truth-of}

@@ -9,7 +9,7 @@ use Rattle.model.specs.Tree.{Child}
 use Rattle.model.specs.Node as Tree
 use Rattle.sheet.specs.Contents.{body}
 use Rattle.bodies.specs.Clauses.{guard-place}
-use Rattle.bodies.specs.GuardRecords.{guard-from}
+use Rattle.records.specs.GuardRecords.{guard-from}
 use Rattle.sheet.specs.Reading.{class-of}
 use Rattle.model.specs.Answers.{probed-as, ending-as}
 use Rattle.children.specs.NameSets.{Crewed}

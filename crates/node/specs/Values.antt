@@ -3,7 +3,7 @@
 use Prim.Native.Nat.{ℕ}
 use mathlib.Core.Bool.{Bool, false}
 use mathlib.Core.List.{List}
-use Rattle.bodies.specs.GuardRecords.{Read, got, broken}
+use Rattle.records.specs.GuardRecords.{Read, got, broken}
 use Rattle.node.specs.Sets.{holds-in}
 use Rattle.node.specs.declared.values.Value.{Value}
 use Rattle.node.specs.declared.values.Value.the-variants.{Holds, Broken}

@@ -1,14 +1,14 @@
 // The evaluator of guards on name sets: it calls itself on each operand.
-use bodies::guards::GuardRecord;
-use bodies::guards::Kind;
-use bodies::guards::Operator;
-use bodies::guards::guard_record;
-use bodies::kinds::Pattern;
 use children::crews::occupied_names;
+use records::guards::GuardRecord;
+use records::guards::Kind;
+use records::guards::Operator;
+use records::guards::guard_record;
+use records::kinds::Pattern;
 ghost use mathlib.Core.Path.{_≡_};
-ghost use Rattle.bodies.specs.GuardRecords.{guard-at, guard-from, joined, operands};
-ghost use Rattle.bodies.specs.Patterns.{pattern-as};
-ghost use Rattle.bodies.specs.Records.{kind-as, operator-as};
+ghost use Rattle.records.specs.GuardRecords.{guard-at, guard-from, joined, operands};
+ghost use Rattle.records.specs.Patterns.{pattern-as};
+ghost use Rattle.records.specs.Records.{kind-as, operator-as};
 ghost use Rattle.node.specs.Sets.{atom-in};
 ghost use Rattle.node.specs.Values.{value-of, truth-of};
 

@@ -13,8 +13,8 @@ use Rattle.model.specs.Words.{each}
 use Rattle.model.proofs.Words.{and-left, and-right, each-elim}
 use Rattle.model.specs.Words.{Bytes}
 use Rattle.sheet.specs.Contents.{record-bytes, fewest, most, start, size, body, length-right, bodies-follow, count-right, counts-in-range, contents-right, Bodies, bodies}
-use Rattle.bodies.specs.Clauses.{in-fours, in-eights}
-use Rattle.bodies.proofs.Bytes.{take-bytes, drop-bytes}
+use Rattle.records.specs.Bytes.{in-fours, in-eights}
+use Rattle.records.proofs.Bytes.{take-bytes, drop-bytes}
 
 -- a body of a byte string is a byte string
 pub body-bytes : (b : List ℕ) → Bytes b → (k : ℕ) → Bytes (body b k)

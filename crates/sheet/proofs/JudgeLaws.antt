@@ -12,7 +12,8 @@ use borrow.Author.Tests.{eq-eqb, ne-eqb, not-true, not-false, eqb-true, lt-ltb, 
 use Rattle.model.specs.Words.{each}
 use Rattle.model.proofs.Words.{clash, and-right, lt-or-le, each-broken}
 use Rattle.sheet.specs.Contents.{record-bytes, fewest, most, start, size, count-right, length-right, bodies-follow, counts-in-range, contents-right, Bodies}
-use Rattle.bodies.specs.Clauses.{in-fours, in-eights, count-sum}
+use Rattle.bodies.specs.Clauses.{count-sum}
+use Rattle.records.specs.Bytes.{in-fours, in-eights}
 use Rattle.sheet.specs.Rules.{checked, refusal-in, refusal}
 use Rattle.bodies.specs.BodyRules.{classes-right, counts-right, records-right, guards-right, targets-right, actions-plain, commands-apart, actions-right, statements-right}
 use Rattle.sheet.specs.declared.judging.Places.{Places}

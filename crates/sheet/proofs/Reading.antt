@@ -15,7 +15,8 @@ use Rattle.model.proofs.Words.{lt-or-le}
 use Rattle.model.proofs.RunLaws.{part-size}
 use Rattle.model.proofs.Lists.{length-listed, getD-listed, getD-past, mem-listed}
 use Rattle.sheet.specs.Contents.{Bodies}
-use Rattle.bodies.specs.Clauses.{in-fours, in-eights, name-set, count-at, count-sum, when-count, action-count, first-when, first-action, body-of}
+use Rattle.bodies.specs.Clauses.{name-set, count-at, count-sum, when-count, action-count, first-when, first-action, body-of}
+use Rattle.records.specs.Bytes.{in-fours, in-eights}
 use Rattle.bodies.proofs.Parts.{body-sized as part-sized}
 use Rattle.sheet.specs.Reading.{when-in, action-in, state-in, class-in}
 

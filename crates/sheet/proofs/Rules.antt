@@ -6,7 +6,7 @@ use mathlib.Core.Path.{_≡_, refl}
 use mathlib.Core.Bool.{Bool, true, false}
 use mathlib.Core.List.{List}
 use Rattle.sheet.specs.Contents.{bodies, Bodies, length-right, contents-right}
-use Rattle.bodies.specs.Clauses.{in-fours, in-eights}
+use Rattle.records.specs.Bytes.{in-fours, in-eights}
 use Rattle.sheet.specs.Rules.{checked, refusal-in, refusal, Accepted}
 use Rattle.bodies.specs.BodyRules.{classes-right, counts-right, records-right, guards-right, targets-right, actions-right, statements-right}
 

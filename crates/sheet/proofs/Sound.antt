@@ -17,11 +17,12 @@ use Rattle.model.specs.Sound.{Sound, ReferrerRight, part-within}
 use Rattle.model.proofs.Words.{each-elim}
 use Rattle.model.specs.Words.{Bytes}
 use Rattle.sheet.specs.Contents.{Bodies, bodies}
-use Rattle.bodies.specs.Clauses.{in-fours, name-set, when-count, action-count, first-when, first-action, referrer-number, target, body-of, statements-of, referrer-of}
+use Rattle.bodies.specs.Clauses.{name-set, when-count, action-count, first-when, first-action, referrer-number, target, body-of, statements-of, referrer-of}
+use Rattle.records.specs.Bytes.{in-fours}
 use Rattle.sheet.specs.Rules.{Accepted}
 use Rattle.bodies.specs.BodyRules.{classes-right, target-right, state-targets-right, targets-right}
 use Rattle.sheet.specs.Reading.{when-in, action-in, class-in, class-of}
-use Rattle.bodies.proofs.Bytes.{u32-below}
+use Rattle.records.proofs.Bytes.{u32-below}
 use Rattle.model.proofs.Bits.{some-bit}
 use Rattle.sheet.proofs.Contents.{body-bytes, counted}
 use Rattle.sheet.proofs.Rules.{BodiesRight, accepted-right}

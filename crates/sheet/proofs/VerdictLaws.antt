@@ -11,7 +11,7 @@ use Rattle.model.proofs.Words.{clash}
 use Rattle.model.proofs.RefusalLaws.{same-number}
 use Rattle.model.specs.declared.Refusal.{Refusal}
 use Rattle.sheet.specs.Contents.{length-right, contents-right, bodies}
-use Rattle.bodies.specs.Clauses.{in-fours, in-eights}
+use Rattle.records.specs.Bytes.{in-fours, in-eights}
 use Rattle.sheet.specs.Rules.{checked, refusal-in, refusal}
 use Rattle.bodies.specs.BodyRules.{classes-right, counts-right, records-right, guards-right, targets-right, actions-right, statements-right}
 use Rattle.sheet.specs.declared.judging.Places.{Places}

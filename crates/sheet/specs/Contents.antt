@@ -6,7 +6,7 @@ use mathlib.Core.List.{List, [], _∷_}
 use lib.Dec.{eqb, leb}
 use lib.ListN.{length, getD, take, drop}
 use Rattle.model.specs.Words.{each}
-use Rattle.bodies.specs.Bytes.{u16}
+use Rattle.records.specs.Bytes.{u16}
 
 -- the table of bodies: child classes, states, when clauses, guard records, action clauses, statements
 abbrev pub record-bytes : ℕ → ℕ

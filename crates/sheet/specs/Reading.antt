@@ -5,8 +5,9 @@ use mathlib.Core.List.{List}
 use Rattle.model.specs.Words.{maybe, listed}
 use Rattle.model.specs.Tree.{everyone, any-in, Guard, atom, When, end, Action, State, Class}
 use Rattle.sheet.specs.Contents.{Bodies, bodies}
-use Rattle.bodies.specs.GuardRecords.{guard-from, by-read}
-use Rattle.bodies.specs.Clauses.{in-fours, name-set, when-count, action-count, first-when, first-action, guard-place, referrer-number, target, referrer-of, action-command, body-of}
+use Rattle.records.specs.GuardRecords.{guard-from, by-read}
+use Rattle.bodies.specs.Clauses.{name-set, when-count, action-count, first-when, first-action, guard-place, referrer-number, target, referrer-of, action-command, body-of}
+use Rattle.records.specs.Bytes.{in-fours}
 
 -- the guard that begins at a place; where none does, one that no child makes true
 unfoldable pub guard-in : Bodies → ℕ → Guard

@@ -5,7 +5,7 @@ use mathlib.Core.Path.{_≡_}
 use mathlib.Core.Bool.{Bool}
 use mathlib.Core.List.{List}
 use Rattle.model.specs.Words.{choose}
-use Rattle.bodies.specs.Clauses.{in-fours, in-eights}
+use Rattle.records.specs.Bytes.{in-fours, in-eights}
 use Rattle.bodies.specs.BodyRules.{classes-right, counts-right, records-right, guards-right, targets-right, actions-right, statements-right}
 use Rattle.sheet.specs.Contents.{Bodies, bodies, length-right, contents-right}
 

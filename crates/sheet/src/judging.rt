@@ -3,11 +3,11 @@ use bodies::checks::actions_ok;
 use bodies::checks::classes_ok;
 use bodies::checks::counts_ok;
 use bodies::checks::guards_ok;
-use bodies::checks::layouts_ok;
+use bodies::checks::records_ok;
 use bodies::checks::statements_ok;
 use bodies::checks::targets_ok;
-use bodies::words::u16_at;
 use model::Refusal;
+use records::words::u16_at;
 ghost use mathlib.Core.Path.{_≡_};
 ghost use Prim.Native.Nat.{_+_, _*_, _<_, _≤_};
 ghost use lib.ListN.{length};
@@ -130,7 +130,7 @@ fn judge_bodies(
     if !counts_ok(states, whens, actions) {
         return Verdict::Refused(Refusal::ClauseCounts);
     }
-    if !layouts_ok(classes, guards) {
+    if !records_ok(classes, guards) {
         return Verdict::Refused(Refusal::GuardLayout);
     }
     if !guards_ok(guards, whens) {

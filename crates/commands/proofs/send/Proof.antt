@@ -3,7 +3,7 @@
 use Prim.Native.Nat.{_-_, _/_}
 use borrow.Author.Needs.{needs}
 use lib.ListN.{length}
-use Rattle.bodies.specs.Patterns.{pattern-as}
+use Rattle.records.specs.Patterns.{pattern-as}
 use Rattle.commands.proofs.SendLaws.{Sending, sent-told, send-more, send-past, send-end}
 use Rattle.commands.proofs.send.Statement.{statement}
 use Rattle.commands.proofs.send.Tie as tie

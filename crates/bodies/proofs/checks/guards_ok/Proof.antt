@@ -7,7 +7,7 @@ use borrow.Author.Needs.{needs}
 use Rattle.model.specs.Words.{each}
 use Rattle.model.proofs.Words.{each-none, each-so-far, each-all, each-broken, passed, not-passed}
 use Rattle.bodies.specs.Clauses.{guard-place}
-use Rattle.bodies.specs.GuardRecords.{guard-from, is-read}
+use Rattle.records.specs.GuardRecords.{guard-from, is-read}
 use Rattle.bodies.specs.BodyRules.{guards-right}
 use Rattle.bodies.proofs.checks.guards_ok.Statement.{statement}
 use Rattle.bodies.proofs.checks.guards_ok.Tie as tie

@@ -7,7 +7,8 @@ use mathlib.Core.Bool.{true}
 use borrow.Author.Needs.{needs}
 use Rattle.model.specs.Words.{each}
 use Rattle.model.proofs.Words.{each-none, each-so-far, each-all, each-broken, passed, not-passed}
-use Rattle.bodies.specs.Clauses.{in-fours, action-count, when-count, first-when}
+use Rattle.bodies.specs.Clauses.{action-count, when-count, first-when}
+use Rattle.records.specs.Bytes.{in-fours}
 use Rattle.bodies.specs.BodyRules.{target-right, state-targets-right}
 use Rattle.bodies.proofs.CheckLaws.{target-in}
 use Rattle.bodies.proofs.checks.state_targets_ok.Statement.{statement}

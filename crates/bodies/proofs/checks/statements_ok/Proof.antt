@@ -7,7 +7,8 @@ use mathlib.Core.Bool.{true}
 use borrow.Author.Needs.{needs}
 use Rattle.model.specs.Words.{is-some, each}
 use Rattle.model.proofs.Words.{each-none, each-so-far, each-all, each-broken, passed, not-passed}
-use Rattle.bodies.specs.Clauses.{in-fours, body-of}
+use Rattle.bodies.specs.Clauses.{body-of}
+use Rattle.records.specs.Bytes.{in-fours}
 use Rattle.bodies.specs.BodyRules.{statements-right}
 use Rattle.bodies.proofs.StatementLaws.{body-reads}
 use Rattle.bodies.proofs.checks.statements_ok.Statement.{statement}

@@ -18,7 +18,7 @@ use Rattle.bodies.proofs.statements.+part_ok+statement_ok.Lts-part_ok a
 use Rattle.bodies.proofs.statements.statement_ok.Reads as statement-ok
 use Rattle.bodies.proofs.statements.statement_ok.Kinds as statement-ok-kinds
 use Rattle.bodies.proofs.statements.+part_ok+statement_ok.Lts-statement_ok as statement-ok-lts
-use Rattle.bodies.proofs.guards.guard_ok.Reads as guard-ok-reads
+use Rattle.records.proofs.guards.guard_ok.Reads as guard-ok-reads
 use Rattle.bodies.proofs.statements.behind_statement.Reads as behind-statement-reads
 use Rattle.bodies.proofs.statements.do_ok.Reads as do-ok-reads
 use Rattle.bodies.proofs.statements.else_part.Reads as else-part-reads
@@ -26,7 +26,7 @@ use Rattle.bodies.proofs.statements.move_ok.Reads as move-ok-reads
 use Rattle.bodies.proofs.statements.records_beside.Reads as records-beside-reads
 use Rattle.bodies.proofs.statements.statement_record.Reads as statement-record-reads
 use Rattle.bodies.proofs.statements.then_part.Reads as then-part-reads
-use Rattle.bodies.proofs.words.byte_at.Reads as byte-at-reads
+use Rattle.records.proofs.words.byte_at.Reads as byte-at-reads
 use Rattle.bodies.proofs.statements.+part_ok+statement_ok.{statement}
 use Rattle.bodies.proofs.statements.+part_ok+statement_ok.Tie.{close}
 

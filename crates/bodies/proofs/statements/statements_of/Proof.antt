@@ -2,7 +2,7 @@
 -- Assumes nothing.
 use Prim.Native.Nat.{ℕ}
 use mathlib.Core.Path.{_∙_, ap₂}
-use Rattle.bodies.specs.Bytes.{records-from}
+use Rattle.records.specs.Bytes.{records-from}
 use borrow.Author.Needs.{needs}
 use Rattle.bodies.proofs.statements.statements_of.Statement.{statement}
 use Rattle.bodies.proofs.statements.statements_of.Tie as tie

@@ -8,10 +8,10 @@ use mathlib.Core.Path.{_≡_, refl, sym, _∙_, ap}
 use lib.ListN.{length}
 use borrow.Fn.Kinds.{In}
 use borrow.Fn.PlainCycle.{Measures, is, falls, and}
-use Rattle.bodies.specs.GuardRecords.{guard-record}
-use Rattle.bodies.specs.Records.{operator-as, record-as}
-use Rattle.bodies.specs.declared.guards.GuardRecord.{GuardRecord}
-use Rattle.bodies.proofs.GuardLaws.{known-there, on-two, on-either}
+use Rattle.records.specs.GuardRecords.{guard-record}
+use Rattle.records.specs.Records.{operator-as, record-as}
+use Rattle.records.specs.declared.guards.GuardRecord.{GuardRecord}
+use Rattle.records.proofs.GuardLaws.{known-there, on-two, on-either}
 use Rattle.node.proofs.ValueLaws.{value-behind, value-as, value-atom, value-deep, value-first, value-one, value-second, value-both, value-either}
 use Rattle.node.proofs.values.guard_holds.Reads as guard-holds
 use Rattle.node.proofs.values.guard_holds.Kinds as guard-holds-kinds
@@ -19,7 +19,7 @@ use Rattle.node.proofs.values.+guard_holds+operator_holds.Lts-guard_hol
 use Rattle.node.proofs.values.operator_holds.Reads as operator-holds
 use Rattle.node.proofs.values.operator_holds.Kinds as operator-holds-kinds
 use Rattle.node.proofs.values.+guard_holds+operator_holds.Lts-operator_holds as operator-holds-lts
-use Rattle.bodies.proofs.guards.guard_record.Reads as guard-record-reads
+use Rattle.records.proofs.guards.guard_record.Reads as guard-record-reads
 use Rattle.node.proofs.values.atom_holds.Reads as atom-holds-reads
 use Rattle.node.proofs.values.+guard_holds+operator_holds.{statement}
 use Rattle.node.proofs.values.+guard_holds+operator_holds.Tie.{close}

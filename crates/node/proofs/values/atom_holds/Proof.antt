@@ -3,7 +3,7 @@
 use native.Mathlib.Omega.{arith}
 use mathlib.Core.Path.{ap}
 use borrow.Author.Needs.{needs}
-use Rattle.bodies.specs.Records.{kind-as}
+use Rattle.records.specs.Records.{kind-as}
 use Rattle.node.proofs.ValueLaws.{any-met, any-left, none-left, none-met}
 use Rattle.node.proofs.values.atom_holds.Statement.{statement}
 use Rattle.node.proofs.values.atom_holds.Tie as tie

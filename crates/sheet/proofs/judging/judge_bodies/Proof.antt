@@ -25,10 +25,10 @@ returns-2 : tie.Need-returns-2
 returns-2 c = stops 3 _ (passed-1 (c .before .before)) (c .before .counts-ok .ensures) (c .if2 .taken) _
 
 passed-3 : (c : tie.Else3) → let s = six (c .before .before .before .before .before .before .before .before .before .before .before .before) in refusal-in s ≡ from-6 s
-passed-3 c = goes-on 4 _ (passed-2 (c .before .before)) (c .before .layouts-ok .ensures) (c .if3 .left)
+passed-3 c = goes-on 4 _ (passed-2 (c .before .before)) (c .before .records-ok .ensures) (c .if3 .left)
 
 returns-3 : tie.Need-returns-3
-returns-3 c = stops 4 _ (passed-2 (c .before .before)) (c .before .layouts-ok .ensures) (c .if3 .taken) _
+returns-3 c = stops 4 _ (passed-2 (c .before .before)) (c .before .records-ok .ensures) (c .if3 .taken) _
 
 passed-4 : (c : tie.Else4) → let s = six (c .before .before .before .before .before .before .before .before .before .before .before .before .before .before) in refusal-in s ≡ from-7 s
 passed-4 c = goes-on 5 _ (passed-3 (c .before .before)) (c .before .guards-ok .ensures) (c .if4 .left)

@@ -1,9 +1,0 @@
--- Where a guard that was read ends, as the guard reader answers it.
--- Assumes nothing.
-use Rattle.bodies.specs.GuardRecords.{Read, got, broken}
-use Rattle.bodies.specs.declared.guards.End.{End}
-use Rattle.bodies.specs.declared.guards.End.the-variants.{At, Broken}
-
-abbrev pub end-of : Read → End
-end-of (got g e) = At e
-end-of broken = Broken

@@ -1,0 +1,4 @@
+pub mod Computing
+pub mod Bytes
+pub mod GuardLaws
+pub mod Unique

@@ -1,0 +1,5 @@
+// The records of a sheet's bodies: numbers in a byte string, the kinds of numbers told apart, and guard records. What a record is is in
+// specs/, what is shown of them in proofs/.
+pub mod guards;
+pub mod kinds;
+pub mod words;
