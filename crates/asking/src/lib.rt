@@ -15,7 +15,7 @@ use texts::reading::other_fields;
 use texts::reading::read_number;
 ghost use mathlib.Core.Path.{_≡_};
 ghost use lib.ListN.{length};
-ghost use Rattle.bargewicker.specs.Questions.{judge, probe-in, phase-from, command-in, loop-with};
+ghost use Rattle.bargewicker.specs.Questions.{judge, command-in, loop-with};
 ghost use Rattle.texts.specs.Texts.{Appended};
 ghost use Rattle.asking.specs.Asking.{is-form, verb-of, line-of, command-answer, placed-answer, state-answer, list-answer, loop-answer, sheet-answer, fields-answer, answer-line};
 

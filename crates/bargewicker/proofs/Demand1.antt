@@ -1,9 +1,8 @@
 -- Demand 1: what is refused, with which number, and that a refusal writes nothing, for all five questions at once.
 -- Assumes nothing.
 use Prim.Native.Nat.{ℕ}
-use native.Mathlib.Omega.{arith}
 use mathlib.Core.Path.{_≡_, refl, sym, _∙_, ap}
-use mathlib.Core.List.{List, [], _∷_}
+use mathlib.Core.List.{List, []}
 use mathlib.Core.Logic.{_↔_}
 use lib.ListN.{getD}
 use Rattle.model.specs.Refusals.{number-of}

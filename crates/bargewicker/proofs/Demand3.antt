@@ -2,7 +2,7 @@
 -- Assumes nothing.
 use Prim.Native.Nat.{ℕ}
 use mathlib.Core.Path.{_≡_, refl, sym, _∙_, ap, subst}
-use mathlib.Core.List.{List, [], _∷_}
+use mathlib.Core.List.{List, []}
 use Rattle.model.proofs.Words.{clash}
 use Rattle.sheet.specs.Reading.{class-of}
 use Rattle.children.specs.ChildList.{pairs}
@@ -11,8 +11,7 @@ use Rattle.sheet.proofs.Sound.{sound}
 use Rattle.configurations.specs.LoopAnswer.{Loops, loop, free, loop-answer}
 use Rattle.configurations.specs.Demand.{Demanded}
 use Rattle.configurations.proofs.Demand.{demanded}
-use Rattle.model.specs.Replies.{Reply, give, told-as, numbers, buffer-after}
-use Rattle.model.specs.Answers.{loop-numbers}
+use Rattle.model.specs.Replies.{give, told-as}
 use Rattle.model.specs.declared.Loops.the-variants.{Loop, Free}
 use Rattle.model.specs.declared.LoopAnswer.{LoopAnswer}
 use Rattle.model.specs.declared.LoopAnswer.the-variants as L

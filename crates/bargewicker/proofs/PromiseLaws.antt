@@ -1,7 +1,7 @@
 -- Laws about specs/Promises.antt: the promise of each question is met by a refusal, and by the answer that its reply gives.
 -- Assumes nothing.
 use Prim.Native.Nat.{ℕ, _<_, _≤_}
-use mathlib.Core.Path.{_≡_, refl, sym, _∙_, ap}
+use mathlib.Core.Path.{_≡_, refl, _∙_, ap}
 use mathlib.Core.List.{List, [], _∷_}
 use Rattle.model.specs.Tree.{Class}
 use Rattle.model.specs.Node.{probe, phase}
@@ -32,7 +32,7 @@ use Rattle.commands.proofs.HandlingLaws.{HandledSo}
 use Rattle.loops.specs.LoopQuestion.{loops-values, reply-loop}
 use Rattle.bargewicker.specs.Questions.{Question, judge, probe-in, phase-from, command-in, loop-with, Answer, accepted, probed, phased, commanded, looped, placed, reply-command, reply, lent}
 use Rattle.bargewicker.specs.Numbers.{values}
-use Rattle.bargewicker.specs.Promises.{AnswerTo, refusing, numbers-of, Promised}
+use Rattle.bargewicker.specs.Promises.{refusing, numbers-of, Promised}
 use Rattle.bargewicker.proofs.QuestionLaws.{command-over, command-taken}
 
 -- the numbers of the answer that refuses

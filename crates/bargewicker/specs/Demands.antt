@@ -14,7 +14,7 @@ use Rattle.model.specs.Tree.{Child, everyone, any-in, atom, Referrer, move-to, 
 use Rattle.model.specs.Guards.{holds}
 use Rattle.model.specs.Moves.{after, EndsAt, Ends}
 use Rattle.model.specs.Node.{own-states, state-of, Probed, nothing, found, Ending, by-none, by-stay, by-do, Phase, settled, loops, command-of, next}
-use Rattle.model.specs.Commands.{Ran, run-part, clause-for}
+use Rattle.model.specs.Commands.{run-part, clause-for}
 use Rattle.model.specs.Refusals.{number-of}
 use Rattle.model.specs.Answers.{probed-as, phase-as}
 use Rattle.model.specs.Replies.{written}

@@ -1,9 +1,9 @@
 -- The records of the bodies: counts, when clauses, action clauses. Clauses stand in state order.
 -- Assumes nothing.
-use Prim.Native.Nat.{ℕ, _+_, _*_, _/_}
+use Prim.Native.Nat.{ℕ, _+_, _*_}
 use mathlib.Core.List.{List, [], _∷_}
 use mathlib.Core.Option.{Option}
-use lib.ListN.{length, getD, take, drop}
+use lib.ListN.{getD, take, drop}
 use Rattle.model.specs.Words.{total}
 use Rattle.model.specs.Tree.{Referrer, move-to, run, stay, Part}
 use Rattle.records.specs.Bytes.{byte, u16, u32, records, records-from, in-eights}

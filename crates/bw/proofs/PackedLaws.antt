@@ -14,7 +14,7 @@ use Rattle.model.specs.declared.Referrer.the-variants.{MoveTo, Do, Stay}
 use Rattle.model.specs.Answers.{ending-as}
 use Rattle.model.specs.declared.Ending.{Ending}
 use Rattle.model.specs.declared.Ending.the-variants.{ByNone, ByStay, ByDo}
-use Rattle.model.specs.Values.{probed-values, referrer-values, settled-values}
+use Rattle.model.specs.Values.{referrer-values, settled-values}
 use Rattle.bargewicker.specs.Questions.{Question}
 use Rattle.bargewicker.specs.Promises.{AnswerTo, numbers-of, Promised}
 use Rattle.bw.specs.Packed.{Field, side-by-side, fields, word, kinds, packed, kinds-of-probe, kinds-of-phase, kinds-of-command, kinds-of-loop, Returned, OneWordAndBuffer}

@@ -1,6 +1,6 @@
 -- The promises of this floor leave one answer, and any eight sets show a list.
 -- Assumes nothing.
-use Prim.Native.Nat.{ℕ, _+_, _*_, _/_, _%_, _<_, _^_}
+use Prim.Native.Nat.{ℕ, _+_, _*_, _/_, _%_, _<_}
 use native.Mathlib.Omega.{arith}
 use mathlib.Core.Path.{_≡_, sym, _∙_, subst}
 use mathlib.Core.Bool.{Bool, true}
@@ -8,13 +8,13 @@ use mathlib.Core.List.{List, List·Memᴰ}
 use lib.ListN.{length, getD}
 use lib.Seq.{ext-getD}
 use Rattle.model.specs.Words.{has, keep, listed}
-use Rattle.model.specs.Tree.{Child, Pattern}
+use Rattle.model.specs.Tree.{Child}
 use Rattle.model.specs.Crews.{occupied}
 use Rattle.model.proofs.Words.{both-ways}
 use Rattle.model.proofs.Masks.{same-bits}
 use Rattle.model.proofs.Lists.{keep-mem, mem-keep, listed-mem, mem-listed}
 use Rattle.model.proofs.Occupancy.{mem-occupied, occupied-mem}
-use Rattle.children.specs.NameSets.{Shows, Small, Names, Crewed}
+use Rattle.children.specs.NameSets.{Shows, Small, Crewed}
 use Rattle.children.specs.Unique.{EightSets, Unique}
 
 one-crew : (ks : List Child) (r s : List ℕ) → EightSets r → EightSets s → Shows r ks → Shows s ks → r ≡ s

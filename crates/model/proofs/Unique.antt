@@ -1,7 +1,7 @@
 -- A promise that is an equation leaves one result, and the readings in which promises are stated tell results apart.
 -- Assumes nothing.
-use mathlib.Core.Path.{_≡_, sym, _∙_}
-use Rattle.model.specs.Unique.{LeavesOne, TellsApart, Equations, Readings}
+use mathlib.Core.Path.{sym, _∙_}
+use Rattle.model.specs.Unique.{Equations, Readings}
 use Rattle.model.proofs.RefusalLaws.{same-number}
 use Rattle.model.proofs.AnswerLaws.{same-state, same-referrer, same-probed, same-ending, same-phase, same-judge, same-probe, same-phase-answer, same-command, same-loop}
 

@@ -1,6 +1,5 @@
 -- That a promise leaves one result, and why one that is an equation does.
 -- Assumes nothing.
-use Prim.Native.Nat.{ℕ}
 use mathlib.Core.Path.{_≡_}
 use Rattle.model.specs.Refusals.{number-of}
 use Rattle.model.specs.Answers.{referrer-as, probed-as, ending-as, phase-as, judge-numbers, probe-numbers, phase-numbers, command-numbers, loop-numbers}

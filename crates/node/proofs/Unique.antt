@@ -1,7 +1,6 @@
 -- The promises of this floor leave one answer: that of a list which the sets show.
 -- Assumes nothing.
 use mathlib.Core.Path.{_≡_, sym, _∙_, ap}
-use Rattle.model.specs.Node as Tree
 use Rattle.model.proofs.Words.{clash}
 use Rattle.model.proofs.AnswerLaws.{same-state, same-probed, same-ending, same-phase}
 use Rattle.children.proofs.Unique.{unique as shown}

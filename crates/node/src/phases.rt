@@ -2,7 +2,6 @@
 use crate::probing::Turn;
 use crate::probing::turn_from;
 use accepted::readers::state_count;
-use model::Ending;
 use model::OwnState;
 use model::Phase;
 use sheet::judging::Places;

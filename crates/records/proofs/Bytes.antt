@@ -2,14 +2,13 @@
 -- Assumes nothing.
 use Prim.Native.Nat.{ℕ, zero, suc, _+_, _*_, _-_, _/_, _<_, _≤_, _^_}
 use native.Mathlib.Omega.{arith}
-use native.Mathlib.Nat.{add-assoc}
 use mathlib.Core.Path.{_≡_, refl, sym, ap, _∙_}
 use mathlib.Core.List.{List, [], _∷_}
 use mathlib.Core.Logic.{_⊎_, inl, inr}
 use lib.ListN.{length, getD, take, drop, length-take, length-drop, drop-of-length-le, List·getD-eq-default}
 use lib.Seq.{getD-take, getD-drop, take-take, take-nil, take-all, drop-drop}
 use Rattle.model.proofs.Words.{lt-or-le}
-use Rattle.records.specs.Bytes.{byte, u16, u32, records, records-from}
+use Rattle.records.specs.Bytes.{u16, u32, records, records-from}
 use Rattle.model.specs.Words.{Bytes}
 
 -- a number of two bytes is below 65,536
@@ -33,16 +32,6 @@ take-bytes n b h i = go (lt-or-le i n)
 -- what is left of a byte string behind the first n is a byte string
 pub drop-bytes : (n : ℕ) (b : List ℕ) → Bytes b → Bytes (drop n b)
 drop-bytes n b h i = rw (getD-drop n b i 0) (h (n + i))
-
--- the numbers of a part that begins at n, read in the whole
-pub u16-drop : (n : ℕ) (b : List ℕ) (at : ℕ) → u16 (drop n b) at ≡ u16 b (n + at)
-u16-drop n b at = rw (getD-drop n b at 0, getD-drop n b (at + 1) 0, ← add-assoc n at 1)
-
--- the same of four bytes
-pub u32-drop : (n : ℕ) (b : List ℕ) (at : ℕ) → u32 (drop n b) at ≡ u32 b (n + at)
-u32-drop n b at =
-    rw (getD-drop n b at 0, getD-drop n b (at + 1) 0, getD-drop n b (at + 2) 0, getD-drop n b (at + 3) 0)
-    (rw (← add-assoc n at 1, ← add-assoc n at 2, ← add-assoc n at 3))
 
 -- a number that lies inside the first n bytes is that of the whole
 pub u16-take : (n : ℕ) (b : List ℕ) (at : ℕ) → at + 2 ≤ n → u16 (take n b) at ≡ u16 b at

@@ -12,7 +12,7 @@ use borrow.Author.Tests.{eqb-true, leb-true}
 use Rattle.model.specs.Words.{each}
 use Rattle.model.proofs.Words.{and-left, and-right, each-elim}
 use Rattle.model.specs.Words.{Bytes}
-use Rattle.sheet.specs.Contents.{record-bytes, fewest, most, start, size, body, length-right, bodies-follow, count-right, counts-in-range, contents-right, Bodies, bodies}
+use Rattle.sheet.specs.Contents.{record-bytes, fewest, most, start, size, body, bodies-follow, count-right, counts-in-range, contents-right, Bodies, bodies}
 use Rattle.records.specs.Bytes.{in-fours, in-eights}
 use Rattle.records.proofs.Bytes.{take-bytes, drop-bytes}
 

@@ -8,14 +8,13 @@ use mathlib.Core.List.{List, [], _∷_}
 use mathlib.Core.Logic.{_⊎_, inl, inr}
 use lib.Dec.{eqb, ltb, leb}
 use lib.ListN.{length}
-use borrow.Author.Tests.{eq-eqb, ne-eqb, not-true, not-false, eqb-true, lt-ltb, le-ltb, lt-leb, le-leb}
+use borrow.Author.Tests.{eq-eqb, ne-eqb, not-true, not-false, lt-ltb, le-ltb, lt-leb, le-leb}
 use Rattle.model.specs.Words.{each}
-use Rattle.model.proofs.Words.{clash, and-right, lt-or-le, each-broken}
+use Rattle.model.proofs.Words.{clash, lt-or-le, each-broken}
 use Rattle.sheet.specs.Contents.{record-bytes, fewest, most, start, size, count-right, length-right, bodies-follow, counts-in-range, contents-right, Bodies}
-use Rattle.bodies.specs.Clauses.{count-sum}
 use Rattle.records.specs.Bytes.{in-fours, in-eights}
 use Rattle.sheet.specs.Rules.{checked, refusal-in, refusal}
-use Rattle.bodies.specs.BodyRules.{classes-right, counts-right, records-right, guards-right, targets-right, actions-plain, commands-apart, actions-right, statements-right}
+use Rattle.bodies.specs.BodyRules.{classes-right, counts-right, records-right, guards-right, targets-right, actions-right, statements-right}
 use Rattle.sheet.specs.declared.judging.Places.{Places}
 use Rattle.sheet.specs.Verdict.{place-numbers, outcome, verdict}
 

@@ -9,9 +9,8 @@ use bodies::checks::targets_ok;
 use model::Refusal;
 use records::words::u16_at;
 ghost use mathlib.Core.Path.{_≡_};
-ghost use Prim.Native.Nat.{_+_, _*_, _<_, _≤_};
-ghost use lib.ListN.{length};
-ghost use Rattle.sheet.specs.Contents.{start, size, record-bytes, fewest, most, count-right, bodies-follow, counts-in-range, contents-right};
+ghost use Prim.Native.Nat.{_+_, _*_, _<_};
+ghost use Rattle.sheet.specs.Contents.{start, size, count-right, bodies-follow, counts-in-range};
 ghost use Rattle.sheet.specs.Rules.{refusal-in};
 ghost use Rattle.sheet.specs.Verdict.{places-of, verdict-numbers, outcome, verdict, together, ShortBodies};
 
