@@ -8,7 +8,7 @@ use mathlib.Core.Path.{_≡_, refl, sym, ap, _∙_, subst}
 use mathlib.Core.Bool.{Bool, true, false, _&&_, _||_, or-comm}
 use mathlib.Core.List.{List, [], _∷_}
 use lib.Dec.{eqb, ltb}
-use lib.Bits.{bitAnd, bitOr, and-mask}
+use lib.Bits.{bitOr}
 use lib.ListN.{length, getD, set, drop, replicate, getD-replicate, length-drop, length-set, List·getD-eq-default}
 use lib.Pow.{shl-exact}
 use lib.Seq.{drop-cons, getD-set-same, getD-set-other}
@@ -21,11 +21,6 @@ use Rattle.children.specs.ChildList.{children-of}
 use Rattle.model.proofs.Bits.{has-none}
 use Rattle.children.specs.NameSets.{Shows, Names, seen, union-of}
 use Rattle.model.proofs.Masks.{has-or, has-pow}
-
--- a bit by shift and mask
-pub shifted : (s n : ℕ) → eqb (bitAnd (s / 2 ^ n) 1) 1 ≡ has s n
-unfolding has
-shifted s n = ap (λ (x : ℕ). eqb x 1) (and-mask (s / 2 ^ n) 1)
 
 -- `1 << n` is 2 to the n
 pub one-shifted : (s n : ℕ) → n < 32 → bitOr s (1 * 2 ^ n % 2 ^ 32) ≡ bitOr s (2 ^ n)

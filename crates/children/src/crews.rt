@@ -6,18 +6,9 @@ use records::kinds::name_at;
 ghost use mathlib.Core.Path.{_≡_};
 ghost use Prim.Native.Nat.{_^_, _<_};
 ghost use lib.Bits.{bitOr};
-ghost use Rattle.model.specs.Words.{has};
 ghost use Rattle.records.specs.Patterns.{pattern-as};
 ghost use Rattle.children.specs.ChildList.{children-of};
 ghost use Rattle.children.specs.NameSets.{Shows, union-of, Names};
-
-// The name is in the set: its bit, by shift and mask.
-pub fn has_name(set: u32, name: ChildName) -> bool
-    requires { ⌜ name .0 < 32 ⌝ }
-    ensures { λ r. ⌜ r ≡ has set (name .0) ⌝ }
-{
-    (set >> name.0) & 1 == 1
-}
 
 // The set with one name more.
 pub fn with_name(set: u32, name: ChildName) -> u32

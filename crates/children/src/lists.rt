@@ -1,10 +1,10 @@
 // Child lists: pairs of bytes (class, name), checked against the sheet's child classes.
-use crate::crews::has_name;
 use bodies::clauses::name_set;
 use model::ChildClass;
 use model::ChildName;
 use records::kinds::class_at;
 use records::kinds::name_at;
+use records::sets::has_name;
 use records::words::in_fours;
 ghost use mathlib.Core.Path.{_≡_};
 ghost use Prim.Native.Nat.{_≤_};

@@ -19,17 +19,8 @@ use Rattle.model.specs.Sound.{Sound}
 use Rattle.model.proofs.Words.{and-left, and-right, and-both, each-intro}
 use Rattle.model.proofs.Lists.{listed-mem, every-elim, every-intro, some-in-intro, keep-mem, mem-keep}
 use Rattle.model.proofs.Occupancy.{mem-occupied, occupied-mem, covered-same, all-occur-same}
-use Rattle.configurations.specs.Configurations.{cell, cells, name-count, chosen, list-of}
+use Rattle.configurations.specs.Configurations.{cell, cells, name-count, chosen, bit, marked, list-of}
 use Rattle.configurations.specs.LoopAnswer.{counts}
-
-abbrev bit : Bool → ℕ
-bit true = 1
-bit false = 0
-
--- the number whose set bits are those of the list that pass the test, the lowest bit first
-unfoldable pub marked : (Child → Bool) → List Child → ℕ
-marked f [] = 0
-marked f (x ∷ xs) = bit (f x) + 2 * marked f xs
 
 lowest-bit : (b : Bool) (m : ℕ) → eqb ((bit b + 2 * m) % 2) 1 ≡ b
 lowest-bit true m = eq-eqb ((1 + 2 * m) % 2) 1 (omega arith)

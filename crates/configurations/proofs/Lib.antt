@@ -1,3 +1,4 @@
 pub mod Computing
 pub mod Configurations
 pub mod Demand
+pub mod Blocks

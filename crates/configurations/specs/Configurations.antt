@@ -1,6 +1,7 @@
 -- Configurations: a number below 2 to the N says which names of the present classes are occupied.
 -- Assumes nothing.
-use Prim.Native.Nat.{ℕ, _*_, _/_, _%_}
+use Prim.Native.Nat.{ℕ, _+_, _*_, _/_, _%_}
+use mathlib.Core.Bool.{Bool, true, false}
 use mathlib.Core.List.{List, [], _∷_}
 use lib.Dec.{eqb}
 use lib.ListN.{length}
@@ -24,6 +25,15 @@ name-count c present = length (cells c present)
 unfoldable pub chosen : List Child → ℕ → List Child
 chosen [] k = []
 chosen (x ∷ xs) k = kept (eqb (k % 2) 1) x (chosen xs (k / 2))
+
+abbrev pub bit : Bool → ℕ
+bit true = 1
+bit false = 0
+
+-- the number whose set bits are those of the list that pass the test, the lowest bit first
+unfoldable pub marked : (Child → Bool) → List Child → ℕ
+marked f [] = 0
+marked f (x ∷ xs) = bit (f x) + 2 * marked f xs
 
 -- the list of one child per set bit, in bit order
 unfoldable pub list-of : Class → ℕ → ℕ → List Child

@@ -1,3 +1,5 @@
 pub mod Configurations
+pub mod Cells
 pub mod LoopAnswer
+pub mod Blocks
 pub mod Demand

@@ -21,10 +21,11 @@ use Rattle.model.proofs.Unique.{equations}
 use Rattle.bodies.specs.Clauses.{name-set}
 use Rattle.records.specs.Bytes.{in-fours}
 use Rattle.children.specs.NameSets.{Small}
-use Rattle.children.proofs.CrewLaws.{shifted}
+use Rattle.model.proofs.Masks.{shifted}
 use Rattle.configurations.specs.Configurations.{cell}
-use Rattle.loops.specs.Cells.{cell-present, cells-from, cells-of, present-among, present-cells, cell-at, first-twenty, AllSmall}
-use Rattle.loops.specs.declared.cells.Cells.{Cells}
+use Rattle.configurations.specs.Cells.{cells-from, cells-of, cell-at, first-twenty, AllSmall}
+use Rattle.configurations.specs.declared.Cells.{Cells}
+use Rattle.loops.specs.Cells.{cell-present, present-among, present-cells}
 
 -- a class that the sheet has not, k being the number of its classes
 pub cell-past : (classes : List ℕ) (present i n k : ℕ) → k ≡ in-fours classes → k ≤ i → cell-present classes present i n ≡ false

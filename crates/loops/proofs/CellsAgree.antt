@@ -1,35 +1,34 @@
--- The cells that the code reads of an accepted sheet are the class's, and a configuration counts for the code exactly if it does for the class.
+-- The cells that the code reads of an accepted sheet are the class's.
 -- Assumes nothing.
 use Prim.Native.Nat.{ℕ, zero, suc, _+_, _-_, _*_, _/_, _%_, _<_, _≤_}
 use native.Mathlib.Omega.{arith}
 use native.Mathlib.Nat.{suc-add}
 use mathlib.Core.Path.{_≡_, refl, sym, ap, _∙_}
-use mathlib.Core.Bool.{Bool, true, false, _&&_, _||_, not, and-false}
-use mathlib.Core.List.{List, [], _∷_, _++_, append-nil, List·Memᴰ}
+use mathlib.Core.Bool.{Bool, true, false, _&&_, and-false}
+use mathlib.Core.List.{List, [], _∷_, _++_, append-nil}
 use mathlib.Core.Logic.{_⊎_, inl, inr}
-use lib.Dec.{eqb}
-use lib.ListN.{getD}
-use borrow.Author.Tests.{lt-ltb, le-ltb, eqb-true, eqb-false, eq-eqb, ne-eqb}
-use Rattle.model.specs.Words.{has, each, keep, listed}
-use Rattle.model.specs.Tree.{Child, Class}
-use Rattle.model.specs.Crews.{child-classes, in-class, belongs, occurs, all-occur, occupied}
-use Rattle.model.proofs.Words.{both-ways, lt-or-le, true-not-false, each-intro, each-elim}
-use Rattle.model.proofs.Lists.{some-in-intro, some-in-elim, keep-append}
-use Rattle.model.proofs.Occupancy.{mem-occupied, occupied-mem}
+use lib.ListN.{length, getD}
+use borrow.Author.Tests.{lt-ltb, le-ltb}
+use Rattle.model.specs.Words.{has, keep, listed}
+use Rattle.model.specs.Tree.{Child}
+use Rattle.model.specs.Crews.{child-classes, in-class, belongs}
+use Rattle.model.proofs.Words.{lt-or-le}
+use Rattle.model.proofs.Lists.{keep-append}
 use Rattle.sheet.specs.Contents.{body, bodies}
 use Rattle.bodies.specs.Clauses.{name-set}
 use Rattle.records.specs.Bytes.{in-fours}
 use Rattle.sheet.specs.Reading.{class-of}
 use Rattle.sheet.specs.Verdict.{Stands}
 use Rattle.sheet.specs.declared.judging.Places.{Places}
-use Rattle.model.proofs.Bits.{has-none, some-bit}
 use Rattle.sheet.proofs.Contents.{counted}
 use Rattle.sheet.proofs.Reading.{child-classes-in, name-set-in}
 use Rattle.accepted.proofs.ReaderLaws.{stands-right}
-use Rattle.children.specs.NameSets.{Small}
-use Rattle.configurations.specs.Configurations.{cell, cells}
-use Rattle.loops.specs.Cells.{cell-present, present-among, present-cells, Spreads, counts-on}
-use Rattle.loops.proofs.CellLaws.{cell-past}
+use Rattle.configurations.specs.Configurations.{cell, cells, name-count}
+use Rattle.configurations.specs.Cells.{cells-of, first-twenty}
+use Rattle.configurations.specs.declared.Cells.{Cells}
+use Rattle.blocks.specs.Search.{CellsOf}
+use Rattle.loops.specs.Cells.{cell-present, present-among, present-cells}
+use Rattle.loops.proofs.CellLaws.{cell-past, present-small, twenty-all, twenty-small}
 
 listed-split {ℓ} : {A : Type ℓ} (i n m : ℕ) (f : ℕ → A) → listed i (n + m) f ≡ listed i n f ++ listed (i + n) m f
 unfolding listed
@@ -98,40 +97,19 @@ module _ (b : List ℕ) (p : Places) (stands : Stands b p) (present : ℕ) where
       ∙ ap (λ (xs : List Child). keep (belongs (class-of b) present) (listed 0 (K * 32) cell) ++ xs) (keep-none cell (belongs (class-of b) present) (0 + K * 32) (256 - K * 32) (λ j l. belongs-past j (omega arith)))
       ∙ append-nil (keep (belongs (class-of b) present) (listed 0 (K * 32) cell))
 
--- a configuration counts for the code exactly if it does for the class
-module _ (c : Class) (present : ℕ) (few : child-classes c ≤ 8) (below : (i : ℕ) → has present i ≡ true → i < child-classes c)
-    (sets : List ℕ) (ks : List Child) (s : Spreads sets ks) (small : (k : Child) → List·Memᴰ k ks → Small k) where
-  -- a class whose set is not empty occurs
-  set-occurs : (i : ℕ) → i < 8 → eqb (getD sets i 0) 0 ≡ false → occurs i ks ≡ true
-  unfolding occurs
-  set-occurs i l e =
-      let (n, m, t) = some-bit 32 (getD sets i 0) (s .narrow i) (eqb-false (getD sets i 0) 0 e) in
-      some-in-intro (λ k. eqb (k .class) i) ks (record { class = i; name = n }) (occupied-mem ks i n (sym (s .shows i n l m) ∙ t)) (eq-eqb i i refl)
+-- the cells that the code reads of an accepted sheet are those of its class, and their number is N, also where there are more than 20
+module _ (b : List ℕ) (p : Places) (stands : Stands b p) (present : ℕ) (r : Cells) (read : r ≡ first-twenty (present-cells (body b 0) present)) where
+  pub number-own : r .count ≡ name-count (class-of b) present
+  unfolding first-twenty
+  number-own = ap (λ (c : Cells). c .count) read ∙ ap length (cells-agree b p stands present)
 
-  -- the set of a class that occurs is not empty
-  occurs-set : (i : ℕ) → i < 8 → occurs i ks ≡ true → eqb (getD sets i 0) 0 ≡ false
-  unfolding occurs
-  occurs-set i l t =
-      let (k, m, e) = some-in-elim (λ k. eqb (k .class) i) ks t in
-      let z : k .class ≡ i = eqb-true (k .class) i e in
-      let h : has (getD sets i 0) (k .name) ≡ true = s .shows i (k .name) l (small k m .name-small) ∙ ap (λ (j : ℕ). occupied ks j (k .name)) (sym z) ∙ mem-occupied ks k m in
-      ne-eqb (getD sets i 0) 0 (λ f. true-not-false h (ap (λ (x : ℕ). has x (k .name)) f ∙ has-none (k .name)))
-
-  pub counts-agree : counts-on present sets ≡ all-occur c present ks
-  unfolding counts-on all-occur
-  counts-agree =
-      both-ways (each 8 counted) (each (child-classes c) (λ i. not (has present i) || occurs i ks))
-      (λ h. each-intro (child-classes c) (λ i. not (has present i) || occurs i ks) (λ i l. there i (omega arith) (has present i) (eqb (getD sets i 0) 0) refl (each-elim 8 counted h i (omega arith))))
-      (λ h. each-intro 8 counted (λ i l. back i l (has present i) refl (λ t. each-elim (child-classes c) (λ i. not (has present i) || occurs i ks) h i (below i t))))
-    where
-      counted : ℕ → Bool
-      counted i = not (has present i) || not (eqb (getD sets i 0) 0)
-
-      there : (i : ℕ) → i < 8 → (a e : Bool) → eqb (getD sets i 0) 0 ≡ e → (not a || not e) ≡ true → (not a || occurs i ks) ≡ true
-      there i l false e f h = refl
-      there i l true true f h = absurd (true-not-false h refl)
-      there i l true false f h = set-occurs i l f
-
-      back : (i : ℕ) → i < 8 → (a : Bool) → has present i ≡ a → (has present i ≡ true → (not (has present i) || occurs i ks) ≡ true) → (not a || not (eqb (getD sets i 0) 0)) ≡ true
-      back i l false e h = refl
-      back i l true e h = ap not (occurs-set i l (let t : (not (has present i) || occurs i ks) ≡ true = h e in rw e at t))
+  pub cells-own : r .count ≤ 20 → ((i : ℕ) → has present i ≡ true → i < child-classes (class-of b)) → CellsOf b present r
+  unfolding first-twenty
+  cells-own few below =
+      let n : r .count ≡ length (present-cells (body b 0) present) = ap (λ (c : Cells). c .count) read in
+      record {
+        own = ap cells-of read ∙ twenty-all (present-cells (body b 0) present) (omega arith) ∙ cells-agree b p stands present;
+        few = few;
+        small = rw read (twenty-small (present-cells (body b 0) present) (present-small (body b 0) present));
+        below = below;
+      }

@@ -3,9 +3,8 @@ pub mod PresentLaws
 pub mod CellLaws
 pub mod SpreadLaws
 pub mod CellsAgree
-pub mod ChaseLaws
 pub mod WalkLaws
 pub mod TableLaws
-pub mod SearchLaws
+pub mod WritingLaws
 pub mod LoopQuestionLaws
 pub mod Unique

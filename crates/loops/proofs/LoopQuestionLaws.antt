@@ -10,11 +10,8 @@ use borrow.Author.Tests.{le-leb, lt-leb}
 use Rattle.model.specs.Tree.{Child, Class}
 use Rattle.model.specs.Crews.{child-classes}
 use Rattle.model.specs.Replies.{Reply, refuse, give, written, Answered}
-use Rattle.model.specs.Answers.{looped-values, loop-numbers}
-use Rattle.model.specs.declared.OwnState.{OwnState}
+use Rattle.model.specs.Answers.{loop-numbers}
 use Rattle.model.specs.declared.LoopAnswer.{LoopAnswer}
-use Rattle.model.specs.declared.Loops.{Loops as Answer}
-use Rattle.model.specs.declared.Loops.the-variants.{Loop, Free}
 use Rattle.model.proofs.Words.{passed, not-passed}
 use Rattle.model.proofs.AnswerLaws.{same-loop}
 use Rattle.model.proofs.ReplyLaws.{answered, answered-once}
@@ -26,13 +23,16 @@ use Rattle.sheet.specs.declared.judging.Places.{Places}
 use Rattle.children.specs.ChildList.{pairs}
 use Rattle.configurations.specs.Configurations.{name-count, chosen, list-of}
 use Rattle.configurations.specs.LoopAnswer.{Loops, loop, free, loop-answer}
-use Rattle.loops.specs.Cells.{cells-of, present-cells, first-twenty}
-use Rattle.loops.specs.Search.{CellsOf, Searched}
+use Rattle.configurations.specs.Cells.{cells-of, first-twenty}
+use Rattle.configurations.specs.declared.Cells.{Cells}
+use Rattle.blocks.specs.Search.{CellsOf, Found}
+use Rattle.blocks.specs.declared.search.Outcome.{Outcome}
+use Rattle.blocks.specs.declared.search.Outcome.the-variants.{Loop, Free}
+use Rattle.loops.specs.Cells.{present-cells}
+use Rattle.loops.specs.Chase.{returning-state}
 use Rattle.loops.specs.LoopQuestion.{bits-below, present-right, bytes-of-loops, reply-loop, loops-values}
-use Rattle.loops.specs.declared.cells.Cells.{Cells}
 use Rattle.loops.proofs.PresentLaws.{set-below}
-use Rattle.loops.proofs.CellsAgree.{classes-are}
-use Rattle.loops.proofs.SearchLaws.{cells-own, number-own}
+use Rattle.loops.proofs.CellsAgree.{classes-are, cells-own, number-own}
 
 -- the reply: 13, 14, 15, or the answer
 module _ (c : Class) (present : ℕ) (out : List ℕ) where
@@ -102,16 +102,16 @@ module _ (b : List ℕ) (p : Places) (present : ℕ) (r : Cells) (known : CellsR
             let n = number in
             answered loops-values (reply-loop (class-of b) present out) (give a (bytes-of-loops a)) (given-reply (class-of b) present out (known .right) (omega arith) (omega arith) a e) out after g
 
-        pub found-free : (x : Answer) → Searched b present x → (m : ℕ) → x ≡ Free m → Told (0 ∷ looped-values x) out
+        pub found-free : (x : Outcome) → Found b present x → (m : ℕ) → x ≡ Free m → Told (0 ∷ 0 ∷ m ∷ []) out
         unfolding bytes-of-loops
-        found-free x told m f = rw f (given (free m) (subst (Searched b present) f told) out refl)
+        found-free x told m f = given (free m) (sym (subst (Found b present) f told)) out refl
 
-        pub found-loop : (x : Answer) → Searched b present x → (k : ℕ) (q : OwnState) → x ≡ Loop k q → (after : List ℕ) → after ≡ written (pairs (chosen (cells-of r) k)) out
-            → Told (0 ∷ 1 ∷ k ∷ q .0 ∷ []) after
+        pub found-loop : (x : Outcome) → Found b present x → (k : ℕ) → x ≡ Loop k → (q : ℕ) → q ≡ returning-state (class-of b) (chosen (cells-of r) k)
+            → (after : List ℕ) → after ≡ written (pairs (chosen (cells-of r) k)) out → Told (0 ∷ 1 ∷ k ∷ q ∷ []) after
         unfolding bytes-of-loops list-of
-        found-loop x told k q f after g =
-            given (loop k (q .0) (list-of (class-of b) present k)) (subst (Searched b present) f told) after
-            (g ∙ ap (λ (xs : List Child). written (pairs (chosen xs k)) out) (cells-known few .own))
+        found-loop x told k f q e after g =
+            let own : chosen (cells-of r) k ≡ list-of (class-of b) present k = ap (λ (xs : List Child). chosen xs k) (cells-known few .own) in
+            given (loop k q (list-of (class-of b) present k)) (rw (e, own) (sym (subst (Found b present) f told))) after (g ∙ ap (λ (xs : List Child). written (pairs xs) out) own)
 
 -- the promise of `loop_with` leaves one answer and one content of the buffer
 pub one-loop-answer : (reply : Reply Loops) (out : List ℕ) (r s : LoopAnswer) (after rest : List ℕ)

@@ -10,7 +10,7 @@ use borrow.Author.Tests.{leb-true, leb-false, le-ltb, lt-ltb, ltb-true}
 use Rattle.model.specs.Words.{has, each}
 use Rattle.model.proofs.Words.{true-not-false, or-either, each-elim, each-so-far, each-broken, each-all}
 use Rattle.model.proofs.Bits.{bit-below as width}
-use Rattle.children.proofs.CrewLaws.{shifted}
+use Rattle.model.proofs.Masks.{shifted}
 use Rattle.loops.specs.LoopQuestion.{bits-below}
 
 -- bit i is not set, or below n

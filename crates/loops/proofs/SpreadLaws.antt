@@ -1,10 +1,10 @@
--- Laws about a configuration spread into sets, and when it is not skipped.
+-- Laws about a configuration spread into sets.
 -- Assumes nothing.
 use Prim.Native.Nat.{ℕ, zero, suc, _+_, _-_, _/_, _^_, _<_, _≤_}
 use native.Mathlib.Omega.{arith}
 use native.Mathlib.Numerals.{add-one}
 use mathlib.Core.Path.{_≡_, refl, sym, ap, _∙_, subst}
-use mathlib.Core.Bool.{Bool, true, false, _&&_, _||_, not}
+use mathlib.Core.Bool.{Bool, true, false}
 use mathlib.Core.List.{List, [], _∷_}
 use lib.Dec.{eqb}
 use lib.Bits.{bitAnd, bitOr}
@@ -12,16 +12,19 @@ use lib.ListN.{length, getD, set, drop, replicate, getD-replicate, length-set, d
 use lib.Pow.{shr-shr}
 use lib.Seq.{drop-cons}
 use borrow.Author.Tests.{ne-eqb}
-use Rattle.model.specs.Words.{has, each, kept, some-in}
+use Rattle.model.specs.Words.{has, kept, some-in}
 use Rattle.model.specs.Tree.{Child}
 use Rattle.model.specs.Crews.{occupied}
-use Rattle.model.proofs.Lists.{length-listed, getD-listed}
-use Rattle.model.proofs.Words.{each-broken, each-so-far, each-all, true-not-false}
+use Rattle.model.proofs.Lists.{length-listed, getD-listed, mem-listed}
 use Rattle.model.proofs.Bits.{has-none}
-use Rattle.children.specs.NameSets.{Shows}
-use Rattle.children.proofs.CrewLaws.{shifted, shows-more}
+use Rattle.children.specs.NameSets.{Shows, Crewed}
+use Rattle.model.proofs.Masks.{shifted}
+use Rattle.children.proofs.CrewLaws.{shows-more}
 use Rattle.configurations.specs.Configurations.{chosen}
-use Rattle.loops.specs.Cells.{cells-from, Spreads, counts-on}
+use Rattle.configurations.specs.Cells.{cells-from, cells-of, AllSmall}
+use Rattle.configurations.specs.declared.Cells.{Cells}
+use Rattle.configurations.proofs.Configurations.{chosen-mem}
+use Rattle.loops.specs.Cells.{Spreads}
 
 -- a store of a small number leaves small numbers; zeros are small
 set-small : (l : List ℕ) (i v b : ℕ) → v < b → ((k : ℕ) → getD l k 0 < b) → (k : ℕ) → getD (set l i v) k 0 < b
@@ -101,28 +104,14 @@ module _ (cs ns : List ℕ) (n k : ℕ) where
         shows = subst (λ (x : ℕ). Shows sets (chosen (cells-from cs ns n) x)) z (subst (λ (x : ℕ). Shows sets (chosen (drop x (cells-from cs ns n)) (k / 2 ^ x))) e (s .shown));
       }
 
--- a class counts if it is not present, or its set is not empty
-module _ (present : ℕ) (sets : List ℕ) where
-  abbrev pub counted : ℕ → Bool
-  counted i = not (has present i) || not (eqb (getD sets i 0) 0)
-
-  pub empty-one : (i : ℕ) → i < 8 → (eqb (bitAnd (present / 2 ^ i) 1) 1 && eqb (getD sets i 0) 0) ≡ true → counts-on present sets ≡ false
-  unfolding counts-on
-  empty-one i l t = each-broken 8 i counted l (go (has present i) (eqb (getD sets i 0) 0) (rw (shifted present i) at t))
-    where
-      go : (a b : Bool) → (a && b) ≡ true → (not a || not b) ≡ false
-      go true true h = refl
-      go true false h = absurd (true-not-false h refl)
-      go false b h = absurd (true-not-false h refl)
-
-  pub counted-one : (i : ℕ) → each i counted ≡ true → (eqb (bitAnd (present / 2 ^ i) 1) 1 && eqb (getD sets i 0) 0) ≡ false → each (i + 1) counted ≡ true
-  counted-one i h t = each-so-far i counted h (go (has present i) (eqb (getD sets i 0) 0) (rw (shifted present i) at t))
-    where
-      go : (a b : Bool) → (a && b) ≡ false → (not a || not b) ≡ true
-      go true true h = sym h
-      go true false h = refl
-      go false b h = refl
-
-  pub counted-all : (i : ℕ) → i ≤ 8 → 8 ≤ i → each i counted ≡ true → counts-on present sets ≡ true
-  unfolding counts-on
-  counted-all i l m h = each-all 8 i counted l m h
+-- the sets of a configuration show its list, whose children are small
+pub crewed : (r : Cells) (k : ℕ) (sets : List ℕ) → AllSmall r → Spreads sets (chosen (cells-of r) k) → Crewed sets (chosen (cells-of r) k)
+unfolding cells-from
+crewed r k sets a s =
+    record {
+      eight = s .eight;
+      shows = s .shows;
+      small = λ x m.
+          let (i, low, high, e) = mem-listed 0 (r .count) (λ i. record { class = getD (r .classes) i 0; name = getD (r .names) i 0 }) x (chosen-mem (cells-of r) k x m) in
+          rw e (record { class-small = a .class-small i; name-small = a .name-small i });
+    }

@@ -8,9 +8,8 @@ use mathlib.Core.Logic.{_⊎_, inl, inr}
 use mathlib.Core.Option.{none, some}
 use lib.ListN.{length, getD, set, replicate, length-set}
 use lib.Seq.{getD-set-same, getD-set-other}
-use Rattle.model.specs.Words.{maybe}
 use Rattle.model.specs.Tree.{Child, When, State}
-use Rattle.model.specs.Node.{own-states, first-true, probe, turn-for, Turn, stops, moves, turn, moved, next, settled, by-turn, walk, phase, moves-of}
+use Rattle.model.specs.Node.{own-states, first-true, probe, turn-for, turn, moved, next}
 use Rattle.model.specs.declared.OwnState.{OwnState}
 use Rattle.model.proofs.Words.{lt-or-le}
 use Rattle.model.proofs.NodeLaws.{stops-next, moves-next, next-within}
@@ -20,9 +19,7 @@ use Rattle.records.specs.Bytes.{in-fours}
 use Rattle.sheet.specs.Reading.{class-of}
 use Rattle.sheet.specs.Verdict.{Stands}
 use Rattle.sheet.specs.declared.judging.Places.{Places}
-use Rattle.sheet.proofs.Contents.{counted}
-use Rattle.sheet.proofs.Reading.{own-states-in, state-of-past}
-use Rattle.accepted.proofs.ReaderLaws.{stands-right}
+use Rattle.sheet.proofs.Reading.{state-of-past}
 use Rattle.sheet.proofs.Sound.{sound}
 use Rattle.node.specs.Probing.{turn-as, Turns}
 use Rattle.model.specs.Answers.{ending-as}
@@ -30,33 +27,11 @@ use Rattle.children.specs.NameSets.{Crewed}
 use Rattle.model.specs.declared.Ending.{Ending}
 use Rattle.node.specs.declared.probing.Turn.{Turn as Taken}
 use Rattle.node.specs.declared.probing.Turn.the-variants.{Stops, Moves}
-use Rattle.loops.specs.Chase.{leads, table-next, MovesTo, Tabulates, move-count}
+use Rattle.blocks.proofs.ClauseLaws.{states-few, states-are}
+use Rattle.loops.specs.Chase.{leads, table-next, MovesTo, Tabulates}
 use Rattle.loops.proofs.WalkLaws.{leads-there}
 
--- the moves that a phase makes
-pub moves-walked : (b : List ℕ) (ks : List Child) (n q m : ℕ) → moves-of (walk (class-of b) ks n q m) ≡ m + move-count (next (class-of b) ks) n q
-unfolding walk move-count
-moves-walked b ks zero q m = omega arith
-moves-walked b ks (suc n) q m = go (turn (class-of b) ks q) refl (λ t. moves-walked b ks n t (m + 1))
-  where
-    go : (t : Turn) → turn (class-of b) ks q ≡ t → ((t : ℕ) → moves-of (walk (class-of b) ks n t (m + 1)) ≡ m + 1 + move-count (next (class-of b) ks) n t)
-        → moves-of (by-turn t (λ e. settled e q m) (λ t. walk (class-of b) ks n t (m + 1))) ≡ m + maybe (next (class-of b) ks q) (λ _. 0) (λ t. suc (move-count (next (class-of b) ks) n t))
-    go (stops e) p h = rw (stops-next (class-of b) ks q e p) (let z : m ≡ m + 0 = omega arith in z)
-    go (moves t) p h = rw (moves-next (class-of b) ks q t p) (let x = h t in let z : moves-of (walk (class-of b) ks n t (m + 1)) ≡ m + suc (move-count (next (class-of b) ks) n t) = omega arith in z)
-
-pub phase-moves : (b : List ℕ) (ks : List Child) (q : ℕ) → moves-of (phase (class-of b) ks q) ≡ move-count (next (class-of b) ks) (own-states (class-of b)) q
-unfolding phase
-phase-moves b ks q = let x = moves-walked b ks (own-states (class-of b)) q 0 in omega arith
-
 module _ (b : List ℕ) (p : Places) (stands : Stands b p) where
-  pub states-are : own-states (class-of b) ≡ in-fours (body b 1)
-  unfolding class-of bodies
-  states-are = own-states-in (bodies b)
-
-  states-most : in-fours (body b 1) ≤ 32
-  unfolding bodies
-  states-most = counted b (stands-right b p stands) .states-most
-
   -- past the last state no move is made
   none-past : (ks : List Child) (q : ℕ) → in-fours (body b 1) ≤ q → next (class-of b) ks q ≡ none
   unfolding next turn probe first-true turn-for class-of bodies
@@ -69,7 +44,7 @@ module _ (b : List ℕ) (p : Places) (stands : Stands b p) where
     moves-byte bytes t e ks crewed =
         let n : next (class-of b) ks q ≡ some (t .0) = moves-next (class-of b) ks q (t .0) (sym (h ks crewed) ∙ ap turn-as e) in
         let l : t .0 < own-states (class-of b) = next-within (class-of b) ks (sound b bytes (stands .accepted)) q (t .0) n in
-        leads-there (t .0) (λ z. let x = states-are in let y = states-most in omega arith) ∙ sym n
+        leads-there (t .0) (λ z. let x = states-are b p stands in let y = states-few b p stands in omega arith) ∙ sym n
 
     pub stops-byte : (t : Ending) → r ≡ Stops t → MovesTo b sets q 255
     stops-byte t e ks crewed = sym (stops-next (class-of b) ks q (ending-as t) (sym (h ks crewed) ∙ ap turn-as e))

@@ -2,7 +2,7 @@
 -- Assumes nothing.
 use Prim.Native.Nat.{ℕ}
 use native.Mathlib.Omega.{arith}
-use mathlib.Core.Path.{_≡_, refl, sym, ap, ap₂, _∙_}
+use mathlib.Core.Path.{_≡_, refl, sym, _∙_}
 use mathlib.Core.Bool.{Bool, true, false}
 use mathlib.Core.List.{List}
 use mathlib.Core.Option.{none, some}
@@ -12,19 +12,13 @@ use lib.Seq.{ext-getD}
 use borrow.Author.Tests.{eqb-true}
 use Rattle.model.specs.Words.{choose}
 use Rattle.model.specs.Tree.{Child}
-use Rattle.model.specs.declared.Loops.{Loops}
-use Rattle.model.specs.declared.Loops.the-variants as L
 use Rattle.model.proofs.Words.{clash}
 use Rattle.model.proofs.Masks.{same-bits}
-use Rattle.model.proofs.AnswerLaws.{same-state}
 use Rattle.children.proofs.Unique.{unique as shown}
 use Rattle.loops.specs.Cells.{Spreads}
-use Rattle.loops.specs.Chase.{leads, table-next, Tabulates, Chased}
-use Rattle.loops.specs.Search.{Searched}
+use Rattle.loops.specs.Chase.{leads, table-next, Tabulates}
 use Rattle.loops.specs.Unique.{Unique}
 use Rattle.loops.specs.declared.chase.Table.{Table}
-use Rattle.loops.specs.declared.chase.Found.{Found}
-use Rattle.loops.specs.declared.chase.Found.the-variants.{Loop, Longest}
 use Rattle.loops.proofs.CellLaws.{one-reading}
 use Rattle.loops.proofs.LoopQuestionLaws.{one-loop-answer}
 
@@ -52,25 +46,11 @@ one-table b sets eight r s m n g h =
     let same : r .to ≡ s .to = ext-getD 255 (r .to) (s .to) (m ∙ sym n) (λ q l. same-byte (getD (r .to) q 255) (getD (s .to) q 255) (g ks c q ∙ sym (h ks c q))) in
     λ i. record { to = same i }
 
-one-chase : (to : List ℕ) (n : ℕ) (r s : Found) → Chased to n r → Chased to n s → r ≡ s
-one-chase to n (Loop q) (Loop p) g h = ap Loop (same-state q p (cc))
-one-chase to n (Loop q) (Longest m) g h = absurd (clash (cc (g, h .0)))
-one-chase to n (Longest m) (Loop q) g h = absurd (clash (cc (g .0, h)))
-one-chase to n (Longest m) (Longest k) g h = ap Longest (g .1 ∙ sym (h .1))
-
-one-search : (b : List ℕ) (present : ℕ) (r s : Loops) → Searched b present r → Searched b present s → r ≡ s
-one-search b present (L.Loop k q) (L.Loop j p) g h = ap₂ L.Loop (cc) (same-state q p (cc))
-one-search b present (L.Loop k q) (L.Free m) g h = absurd (clash (cc))
-one-search b present (L.Free m) (L.Loop k q) g h = absurd (clash (cc))
-one-search b present (L.Free m) (L.Free n) g h = ap L.Free (cc)
-
 pub unique : Unique
 unique =
     record {
       reading = one-reading;
       spreading = one-spread;
       tabulating = one-table;
-      chasing = one-chase;
-      searching = one-search;
       asking = one-loop-answer;
     }

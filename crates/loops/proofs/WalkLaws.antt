@@ -1,22 +1,26 @@
--- Laws about the walks over a table of moves: what a walk does, and what its answer says.
+-- Laws about the walks over a table of moves: a walk comes back or does not, and the smallest state from which one does.
 -- Assumes nothing.
 use Prim.Native.Nat.{ℕ, zero, suc, _+_, _<_, _≤_}
 use native.Mathlib.Omega.{arith}
 use native.Mathlib.Numerals.{add-one}
-use mathlib.Core.Path.{_≡_, refl, sym, ap, _∙_, subst}
-use mathlib.Core.Bool.{true, false}
+use mathlib.Core.Path.{_≡_, refl, sym, ap, _∙_, fun-ext}
+use mathlib.Core.Bool.{Bool, true, false}
 use mathlib.Core.List.{List, [], _∷_}
 use mathlib.Core.Logic.{_⊎_, inl, inr}
 use mathlib.Core.Option.{Option, none, some}
 use lib.ListN.{length, getD, List·getD-eq-default}
 use borrow.Author.Tests.{eq-eqb, ne-eqb}
 use Rattle.model.specs.Words.{maybe, some-below}
+use Rattle.model.specs.Tree.{Child}
 use Rattle.model.specs.Moves.{Next, after, EndsAt, is-at, returns-soon}
-use Rattle.model.proofs.Words.{clash, true-not-false, not-not-true, lt-or-le, below-next, some-below-intro, some-below-elim}
-use Rattle.model.proofs.Moves.{after-none, after-some, after-zero, after-add, after-ended}
-use Rattle.loops.specs.Chase.{leads, table-next, move-count, WalkIs}
-use Rattle.loops.specs.declared.chase.Walk.{Walk}
-use Rattle.loops.specs.declared.chase.Walk.the-variants.{Returns, Makes}
+use Rattle.model.specs.Node.{own-states, next}
+use Rattle.model.proofs.Words.{true-not-false, not-not-true, lt-or-le, below-next, some-below-intro, some-below-elim, least-found, least-not}
+use Rattle.model.proofs.Moves.{after-zero, after-add, after-ended}
+use Rattle.sheet.specs.Reading.{class-of}
+use Rattle.children.specs.NameSets.{Crewed}
+use Rattle.configurations.specs.LoopAnswer.{returning}
+use Rattle.loops.specs.Chase.{leads, table-next, Tabulates, smallest, returning-state}
+use Rattle.loops.specs.declared.chase.Table.{Table}
 
 -- a byte other than 255 leads there
 pub leads-there : (t : ℕ) → (t ≡ 255 → ⊥) → leads t ≡ some t
@@ -64,26 +68,6 @@ module _ (mv : Next) where
       go none = refl
       go (some t) = refl
 
-  -- where all n moves are made, n are counted; where the phase ends before, as many as it makes
-  pub counted-all : (n q r : ℕ) → after mv n q ≡ some r → move-count mv n q ≡ n
-  unfolding move-count
-  counted-all zero q r e = refl
-  counted-all (suc n) q r e = go (mv q) refl (counted-all n)
-    where
-      go : (o : Option ℕ) → mv q ≡ o → ((t r : ℕ) → after mv n t ≡ some r → move-count mv n t ≡ n) → maybe o (λ _. 0) (λ t. suc (move-count mv n t)) ≡ suc n
-      go none p h = absurd (clash (cc (sym e ∙ after-none mv n q p)))
-      go (some t) p h = ap suc (h t r (sym (after-some mv n q t p) ∙ e))
-
-  pub counted-ended : (m n q r : ℕ) → after mv m q ≡ some r → mv r ≡ none → m < n → move-count mv n q ≡ m
-  unfolding move-count
-  counted-ended m zero q r e f l = absurd (omega arith)
-  counted-ended zero (suc n) q r e f l = let z : q ≡ r = cc (after-zero mv q) in rw (z, f)
-  counted-ended (suc m) (suc n) q r e f l = go (mv q) refl (λ t h. counted-ended m n t r h f (omega arith))
-    where
-      go : (o : Option ℕ) → mv q ≡ o → ((t : ℕ) → after mv m t ≡ some r → move-count mv n t ≡ m) → maybe o (λ _. 0) (λ t. suc (move-count mv n t)) ≡ suc m
-      go none p h = absurd (clash (cc (sym e ∙ after-none mv m q p)))
-      go (some t) p h = ap suc (h t (sym (after-some mv m q t p) ∙ e))
-
 -- a walk from q after some moves: it is at a state, and has not been at q again
 pub record Walking (to : List ℕ) (n q here m : ℕ) : Type 0 where
   pub table : length to ≡ 32
@@ -98,8 +82,8 @@ module _ (to : List ℕ) (n q : ℕ) where
 
   module _ (here m : ℕ) (w : Walking to n q here m) where
     -- it ends
-    pub walking-ended : m < n → table-next to here ≡ none → WalkIs to n q (Makes m)
-    walking-ended l e = (no-return (table-next to) n q away, sym (counted-ended (table-next to) m n q here (w .reached) e l))
+    pub walking-ended : m < n → table-next to here ≡ none → false ≡ returns-soon (table-next to) n q
+    walking-ended l e = sym (no-return (table-next to) n q away)
       where
         E : EndsAt (table-next to) q m here
         E = record { reached = w .reached; ended = e }
@@ -111,10 +95,10 @@ module _ (to : List ℕ) (n q : ℕ) where
         away : (j : ℕ) → j < n → is-at q (after (table-next to) (suc j) q) ≡ false
         away j u = at j (lt-or-le j m)
 
-    pub walking-out : m < n → 32 ≤ here → WalkIs to n q (Makes m)
+    pub walking-out : m < n → 32 ≤ here → false ≡ returns-soon (table-next to) n q
     walking-out l u = walking-ended l (table-past to here (let x = w .table in omega arith))
 
-    pub walking-stops : m < n → here < 32 → getD to here 0 ≡ 255 → WalkIs to n q (Makes m)
+    pub walking-stops : m < n → here < 32 → getD to here 0 ≡ 255 → false ≡ returns-soon (table-next to) n q
     walking-stops l u e = walking-ended l (table-nowhere to here (let x = w .table in omega arith) e)
 
     module _ (low : here < 32) (some-move : getD to here 0 ≡ 255 → ⊥) where
@@ -122,9 +106,9 @@ module _ (to : List ℕ) (n q : ℕ) where
       moved-there = one-more (table-next to) m q here (w .reached) ∙ table-there to here (getD to here 0) (let x = w .table in omega arith) refl some-move
 
       -- it is back
-      pub walking-back : m < n → getD to here 0 ≡ q → WalkIs to n q Returns
+      pub walking-back : m < n → getD to here 0 ≡ q → true ≡ returns-soon (table-next to) n q
       unfolding returns-soon
-      walking-back l e = some-below-intro n (λ j. is-at q (after (table-next to) (suc j) q)) m l (rw moved-there (eq-eqb (getD to here 0) q e))
+      walking-back l e = sym (some-below-intro n (λ j. is-at q (after (table-next to) (suc j) q)) m l (rw moved-there (eq-eqb (getD to here 0) q e)))
 
       -- it goes on
       pub walking-more : m < n → (getD to here 0 ≡ q → ⊥) → Walking to n q (getD to here 0) (m + 1)
@@ -137,14 +121,29 @@ module _ (to : List ℕ) (n q : ℕ) where
           }
 
     -- it has made all its moves
-    pub walking-all : n ≤ m → WalkIs to n q (Makes m)
+    pub walking-all : n ≤ m → false ≡ returns-soon (table-next to) n q
     walking-all l =
         let e : m ≡ n = (let x = w .few in omega arith) in
-        (ap (λ (x : ℕ). returns-soon (table-next to) x q) (sym e) ∙ w .away, e ∙ sym (counted-all (table-next to) n q here (ap (λ (x : ℕ). after (table-next to) x q) (sym e) ∙ w .reached)))
+        sym (ap (λ (x : ℕ). returns-soon (table-next to) x q) (sym e) ∙ w .away)
 
--- what a walk's answer says
-pub walk-returned : (to : List ℕ) (n q : ℕ) (w : Walk) → WalkIs to n q w → w ≡ Returns → returns-soon (table-next to) n q ≡ true
-walk-returned to n q w h e = subst (WalkIs to n q) e h
+-- the smallest state that returns: none before q does
+module _ (f : ℕ → Bool) where
+  pub none-start : (j : ℕ) → j < 0 → f j ≡ false
+  none-start j l = absurd (omega arith)
 
-pub walk-made : (to : List ℕ) (n q : ℕ) (w : Walk) (m : ℕ) → WalkIs to n q w → w ≡ Makes m → WalkIs to n q (Makes m)
-walk-made to n q w m h e = subst (WalkIs to n q) e h
+  pub none-more : (q : ℕ) → ((j : ℕ) → j < q → f j ≡ false) → (r : Bool) → r ≡ f q → r ≡ false → (j : ℕ) → j < q + 1 → f j ≡ false
+  none-more q h r e t j l = below-next (λ j. f j ≡ false) q h (sym e ∙ t) j (let z : j < suc q = omega arith in z)
+
+  pub smallest-here : (n q : ℕ) → ((j : ℕ) → j < q → f j ≡ false) → q < n → (r : Bool) → r ≡ f q → r ≡ true → q ≡ smallest n f
+  smallest-here n q h l r e t = rw (least-found n f q l (sym e ∙ t) h)
+
+  pub smallest-none : (n q : ℕ) → ((j : ℕ) → j < q → f j ≡ false) → n ≤ q → 0 ≡ smallest n f
+  smallest-none n q h l = rw (least-not n f (λ j u. h j (omega arith)))
+
+-- the table of a configuration's moves gives the class's smallest state
+pub state-told : (b : List ℕ) (sets : List ℕ) (ks : List Child) (t : Table) (n q : ℕ) → Tabulates b sets t → Crewed sets ks → n ≡ own-states (class-of b) → q ≡ smallest n (returns-soon (table-next (t .to)) n)
+    → q ≡ returning-state (class-of b) ks
+unfolding returning
+state-told b sets ks t n q T c e h =
+    let moves : table-next (t .to) ≡ next (class-of b) ks = fun-ext (λ q. T ks c q) in
+    h ∙ rw (moves, e)

@@ -1,23 +1,19 @@
 -- What the code finds in one configuration, from a table of moves.
 -- Assumes nothing.
-use Prim.Native.Nat.{ℕ, zero, suc}
+use Prim.Native.Nat.{ℕ}
 use mathlib.Core.Path.{_≡_}
-use mathlib.Core.Bool.{true, false}
+use mathlib.Core.Bool.{Bool}
 use mathlib.Core.List.{List}
 use mathlib.Core.Option.{Option, none, some}
 use lib.Dec.{eqb}
 use lib.ListN.{getD}
-use Rattle.model.specs.Words.{choose, maybe, least, greatest}
-use Rattle.model.specs.Tree.{Child}
-use Rattle.model.specs.Moves.{Next, returns-soon}
+use Rattle.model.specs.Words.{choose, maybe, least}
+use Rattle.model.specs.Tree.{Child, Class}
 use Rattle.model.specs.Node.{next}
 use Rattle.sheet.specs.Reading.{class-of}
 use Rattle.children.specs.NameSets.{Crewed}
+use Rattle.configurations.specs.LoopAnswer.{returning}
 use Rattle.loops.specs.declared.chase.Table.{Table}
-use Rattle.loops.specs.declared.chase.Walk.{Walk}
-use Rattle.loops.specs.declared.chase.Walk.the-variants.{Returns, Makes}
-use Rattle.loops.specs.declared.chase.Found.{Found}
-use Rattle.loops.specs.declared.chase.Found.the-variants.{Loop, Longest}
 
 -- a byte that says where a move leads; 255 says that none is made
 abbrev pub leads : ℕ → Option ℕ
@@ -34,17 +30,10 @@ MovesTo b sets q r = (ks : List Child) → Crewed sets ks → leads r ≡ next (
 abbrev pub Tabulates : List ℕ → List ℕ → Table → Type 0
 Tabulates b sets r = (ks : List Child) → Crewed sets ks → (q : ℕ) → table-next (r .to) q ≡ next (class-of b) ks q
 
--- how many moves are made from q, at most n
-unfoldable pub move-count : Next → ℕ → ℕ → ℕ
-move-count next zero q = 0
-move-count next (suc n) q = maybe (next q) (λ _. 0) (λ t. suc (move-count next n t))
+-- the smallest number below n that passes the test; 0 where none does
+abbrev pub smallest : ℕ → (ℕ → Bool) → ℕ
+smallest n f = maybe (least n f) (λ _. 0) (λ q. q)
 
--- a walk of at most n moves from q returns to q, or it does not and makes m moves
-abbrev pub WalkIs : List ℕ → ℕ → ℕ → Walk → Type 0
-WalkIs to n q Returns = returns-soon (table-next to) n q ≡ true
-WalkIs to n q (Makes m) = (returns-soon (table-next to) n q ≡ false) × (m ≡ move-count (table-next to) n q)
-
--- the smallest state below n that returns to itself; or there is none, and m is the largest number of moves
-abbrev pub Chased : List ℕ → ℕ → Found → Type 0
-Chased to n (Loop q) = least n (returns-soon (table-next to) n) ≡ some (q .0)
-Chased to n (Longest m) = (least n (returns-soon (table-next to) n) ≡ none) × (m ≡ greatest n (move-count (table-next to) n))
+-- the smallest own state that returns to itself with these children; 0 where none does
+abbrev pub returning-state : Class → List Child → ℕ
+returning-state c ks = maybe (returning c ks) (λ _. 0) (λ q. q)

@@ -1,10 +1,12 @@
 // The loop question on an accepted sheet: refusals 13, 14 and 15 in their order, then the search; a loop's list is written.
 use crate::cells::read_cells;
-use crate::search::search;
-use crate::search::write_list;
+use crate::cells::write_list;
+use crate::chase::returning_in;
 use accepted::held::CLASSES;
 use accepted::readers::body_of;
 use accepted::readers::class_count;
+use blocks::search::Outcome;
+use blocks::search::search;
 use model::LoopAnswer;
 use model::Loops;
 use model::Refusal;
@@ -47,8 +49,12 @@ pub fn loop_with(sheet: &[u8], p: Places, present: u8, out: &mut [u8]) -> LoopAn
         return LoopAnswer::Refused(Refusal::Room);
     }
     let found = search(sheet, p, present, cells);
-    if let Loops::Loop(k, _) = found {
-        write_list(cells, k, out);
+    match found {
+        Outcome::Loop(k) => {
+            let q = returning_in(sheet, p, cells, k);
+            write_list(cells, k, out);
+            LoopAnswer::Given(Loops::Loop(k, q))
+        }
+        Outcome::Free(m) => LoopAnswer::Given(Loops::Free(m)),
     }
-    LoopAnswer::Given(found)
 }

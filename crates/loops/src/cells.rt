@@ -1,22 +1,19 @@
-// The cells of the present classes, one for each bit of a configuration, and a configuration spread into one name set per class.
+// The cells of the present classes, one for each bit of a configuration; a configuration spread into one name set per class, and its list.
 use bodies::clauses::name_set;
-use children::crews::has_name;
 use children::crews::with_name;
+use configurations::Cells;
 use model::ChildClass;
 use model::ChildName;
+use records::sets::has_name;
 use records::words::in_fours;
 ghost use mathlib.Core.Path.{_≡_};
-ghost use Prim.Native.Nat.{_<_, _≤_, _/_, _%_};
-ghost use lib.ListN.{getD};
+ghost use Prim.Native.Nat.{_*_, _<_, _≤_, _/_, _%_};
+ghost use lib.ListN.{length, getD};
+ghost use Rattle.model.specs.Replies.{written};
+ghost use Rattle.children.specs.ChildList.{pairs};
 ghost use Rattle.configurations.specs.Configurations.{chosen};
-ghost use Rattle.loops.specs.Cells.{cell-present, cells-of, present-cells, first-twenty, AllSmall, Spreads, counts-on};
-
-// The class and the name of each bit, of the first 20 where there are more, 0 behind the last; and how many there are.
-pub struct Cells {
-    pub classes: [u8; 20],
-    pub names: [u8; 20],
-    pub count: usize,
-}
+ghost use Rattle.configurations.specs.Cells.{cells-of, first-twenty, AllSmall};
+ghost use Rattle.loops.specs.Cells.{cell-present, present-cells, Spreads};
 
 // The class of pair j, of all pairs of a class below 8 and a name below 32 in rising order.
 fn class_numbered(j: u16) -> ChildClass
@@ -110,16 +107,23 @@ pub fn spread(cells: Cells, k: u32) -> [u32; 8]
     sets
 }
 
-// No present class is empty: the configuration is not skipped.
-pub fn counts(present: u8, sets: [u32; 8]) -> bool
-    ensures { λ r. ⌜ r ≡ counts-on present sets ⌝ }
+// The list of a configuration, one child per set bit, in bit order, as pairs; what is behind them is kept.
+pub fn write_list(cells: Cells, k: u32, out: &mut [u8])
+    requires { ⌜ (cells .count ≤ 20) × (2 * cells .count ≤ length (now out)) ⌝ }
+    ensures { λ _. ⌜ now (out .exit) ≡ written (pairs (chosen (cells-of cells) k)) (now (out .entry)) ⌝ }
 {
-    let mut i = 0;
-    while i < 8 {
-        if ((present >> i) & 1 == 1) & (sets[i] == 0) {
-            return false;
+    let classes = cells.classes;
+    let names = cells.names;
+    let n = cells.count;
+    let mut at = 0;
+    let mut next = 0;
+    while next < n {
+        let i = next;
+        next = next + 1;
+        if (k >> i) & 1 == 1 {
+            out[at] = classes[i];
+            out[at + 1] = names[i];
+            at = at + 2;
         }
-        i = i + 1;
     }
-    true
 }

@@ -1,28 +1,24 @@
-// One configuration: each state is probed once, and the graph of moves is chased from every state.
+// The configuration that the search found, spread into one name set per class: each state is probed once, and the moves are followed from
+// every state, until one comes back.
+use crate::cells::spread;
 use accepted::readers::state_count;
+use configurations::Cells;
 use model::OwnState;
 use node::probing::Turn;
 use node::probing::turn_from;
 use sheet::judging::Places;
+ghost use mathlib.Core.Path.{_≡_};
 ghost use Prim.Native.Nat.{_<_, _≤_};
+ghost use Rattle.model.specs.Moves.{returns-soon};
+ghost use Rattle.sheet.specs.Reading.{class-of};
 ghost use Rattle.sheet.specs.Verdict.{Stands};
-ghost use Rattle.loops.specs.Chase.{MovesTo, Tabulates, WalkIs, Chased};
+ghost use Rattle.configurations.specs.Configurations.{chosen};
+ghost use Rattle.configurations.specs.Cells.{cells-of, AllSmall};
+ghost use Rattle.loops.specs.Chase.{table-next, MovesTo, Tabulates, smallest, returning-state};
 
 // Where each state's next move leads; 255 where it makes none.
 pub struct Table {
     pub to: [u8; 32],
-}
-
-// What a walk from a state does: it returns to where it began, or it makes so many moves and does not.
-pub enum Walk {
-    Returns,
-    Makes(usize),
-}
-
-// What a configuration has: a state that returns to itself, the smallest, or the largest number of moves.
-pub enum Found {
-    Loop(OwnState),
-    Longest(usize),
 }
 
 // Where the next move from state q leads; 255 where none is made.
@@ -53,52 +49,51 @@ pub fn tabulate(sheet: &[u8], p: Places, sets: [u32; 8]) -> Table
     Table { to }
 }
 
-// The walk from state q, of at most n moves.
-fn walk_from(table: Table, n: usize, q: usize) -> Walk
+// State q comes back to itself by at most n moves.
+fn comes_back(table: Table, n: usize, q: usize) -> bool
     requires { ⌜ (n ≤ 32) × (q < n) ⌝ }
-    ensures { λ r. ⌜ WalkIs (table .to) n q r ⌝ }
+    ensures { λ r. ⌜ r ≡ returns-soon (table-next (table .to)) n q ⌝ }
 {
     let to = table.to;
     let mut at = q;
     let mut moves = 0;
     while moves < n {
         if 32 <= at {
-            return Walk::Makes(moves);
+            return false;
         }
         let next = to[at] as usize;
         if next == 255 {
-            return Walk::Makes(moves);
+            return false;
         }
         if next == q {
-            return Walk::Returns;
+            return true;
         }
         at = next;
         moves = moves + 1;
     }
-    Walk::Makes(moves)
+    false
 }
 
-// The smallest state that returns to itself, or the largest number of moves.
-pub fn chase_from(table: Table, n: usize) -> Found
+// The smallest state that returns to itself; 0 where none does.
+pub fn smallest_returning(table: Table, n: usize) -> OwnState
     requires { ⌜ n ≤ 32 ⌝ }
-    ensures { λ r. ⌜ Chased (table .to) n r ⌝ }
+    ensures { λ r. ⌜ r .0 ≡ smallest n (returns-soon (table-next (table .to)) n) ⌝ }
 {
-    let mut longest = 0;
     let mut q = 0;
     while q < n {
-        let from = q;
-        let walk = walk_from(table, n, from);
-        q = q + 1;
-        match walk {
-            Walk::Returns => {
-                return Found::Loop(OwnState(from as u8));
-            }
-            Walk::Makes(m) => {
-                if longest < m {
-                    longest = m;
-                }
-            }
+        if comes_back(table, n, q) {
+            return OwnState(q as u8);
         }
+        q = q + 1;
     }
-    Found::Longest(longest)
+    OwnState(0)
+}
+
+// The smallest own state that returns to itself in configuration k; 0 where none does.
+pub fn returning_in(sheet: &[u8], p: Places, cells: Cells, k: u32) -> OwnState
+    requires { ⌜ Stands (now sheet) p × ((cells .count ≤ 20) × AllSmall cells) ⌝ }
+    ensures { λ r. ⌜ r .0 ≡ returning-state (class-of (now (sheet .entry))) (chosen (cells-of cells) k) ⌝ }
+{
+    let sets = spread(cells, k);
+    smallest_returning(tabulate(sheet, p, sets), state_count(sheet, p))
 }

@@ -1,12 +1,12 @@
--- Laws about the bits of `&` and `|`, of a power of 2, and about sets that are compared by mask.
+-- Laws about the bits of `&`, `|` and `!`, of a shift, of a power of 2, and about sets that are compared by mask.
 -- Assumes nothing.
-use Prim.Native.Nat.{ℕ, zero, suc, _/_, _%_, _^_, _<_, min, max}
+use Prim.Native.Nat.{ℕ, zero, suc, _-_, _/_, _%_, _^_, _<_, min, max}
 use native.Mathlib.Omega.{arith}
 use native.Mathlib.Nat.{lt-of-le-of-lt, pow-suc}
 use mathlib.Core.Path.{_≡_, refl, sym, ap, _∙_, fun-ext}
 use mathlib.Core.Bool.{Bool, true, false, _&&_, _||_, not}
 use lib.Dec.{eqb, eqb·zero-suc, eqb·suc-zero, eqb·suc-suc}
-use lib.Bits.{bitAnd, bitOr, and-step, or-step, and-le-l}
+use lib.Bits.{bitAnd, bitOr, and-step, or-step, and-le-l, and-mask}
 use lib.Pow.{pow-pos}
 use borrow.Author.Tests.{eq-eqb, eqb-true}
 use Rattle.model.specs.Words.{has, each, some-below}
@@ -53,6 +53,26 @@ has-or a b zero =
 has-or a b (suc n) =
     let e : bitOr a b / 2 ≡ bitOr (a / 2) (b / 2) = omega (arith, or-step a b) in
     rw (has-half (bitOr a b) n, has-half a n, has-half b n, e) (has-or (a / 2) (b / 2) n)
+
+digit-not : (x : ℕ) → x < 2 → eqb (1 - x) 1 ≡ not (eqb x 1)
+digit-not zero p = refl
+digit-not (suc zero) p = refl
+digit-not (suc (suc x)) p = absurd (omega arith)
+
+-- bit n of `!a` in k bits
+pub has-not : (k a n : ℕ) → a < 2 ^ k → n < k → has (2 ^ k - suc a) n ≡ not (has a n)
+has-not zero a n l m = absurd (omega arith)
+has-not (suc k) a zero l m =
+    let e : (2 ^ suc k - suc a) % 2 ≡ 1 - a % 2 = omega (arith, pow-suc 2 k) in
+    rw (has-zero (2 ^ suc k - suc a), has-zero a, e) (digit-not (a % 2) (omega arith))
+has-not (suc k) a (suc n) l m =
+    let e : (2 ^ suc k - suc a) / 2 ≡ 2 ^ k - suc (a / 2) = omega (arith, pow-suc 2 k) in
+    rw (has-half (2 ^ suc k - suc a) n, has-half a n, e) (has-not k (a / 2) n (omega (arith, pow-suc 2 k)) (omega arith))
+
+-- the one bit by shift and mask
+pub shifted : (s n : ℕ) → eqb (bitAnd (s / 2 ^ n) 1) 1 ≡ has s n
+unfolding has
+shifted s n = ap (λ (x : ℕ). eqb x 1) (and-mask (s / 2 ^ n) 1)
 
 -- 2 to the m has bit m and no other
 pub has-pow : (m n : ℕ) → has (2 ^ m) n ≡ eqb m n

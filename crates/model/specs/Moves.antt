@@ -6,7 +6,7 @@ use mathlib.Core.Path.{_≡_}
 use mathlib.Core.Bool.{Bool, true, false}
 use mathlib.Core.Option.{Option, none, some}
 use lib.Dec.{eqb}
-use Rattle.model.specs.Words.{maybe, some-below}
+use Rattle.model.specs.Words.{maybe, is-some, some-below}
 
 abbrev pub Next : Type 0
 Next = ℕ → Option ℕ
@@ -15,6 +15,10 @@ Next = ℕ → Option ℕ
 unfoldable pub after : Next → ℕ → ℕ → Option ℕ
 after next zero q = some q
 after next (suc n) q = maybe (next q) (λ _. none) (after next n)
+
+-- n moves can be made from q
+unfoldable pub can : Next → ℕ → ℕ → Bool
+can next n q = is-some (after next n q)
 
 -- n moves lead from q to r, and there the phase ends
 pub record EndsAt (next : Next) (q n r : ℕ) : Type 0 where

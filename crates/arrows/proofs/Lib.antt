@@ -1,0 +1,4 @@
+pub mod SortingLaws
+pub mod LevelLaws
+pub mod Steps
+pub mod Unique

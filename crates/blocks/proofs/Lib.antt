@@ -1,0 +1,4 @@
+pub mod ClauseLaws
+pub mod BlockLaws
+pub mod SearchLaws
+pub mod Unique

@@ -1,0 +1,3 @@
+pub mod ClauseTables
+pub mod Search
+pub mod Unique

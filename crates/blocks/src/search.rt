@@ -1,0 +1,101 @@
+// The search: blocks rising, those in which no lane counts skipped; the first with a loop stops it.
+use crate::clauses::read_clauses;
+use accepted::held::GUARDS;
+use accepted::readers::body_of;
+use arrows::levels::Moves;
+use arrows::levels::count_moves;
+use arrows::sorting::sort_lanes;
+use configurations::Cells;
+use lanes::counting::Present;
+use lanes::counting::counted_lanes;
+use lanes::counting::present_masks;
+use lanes::words::lowest_lane;
+use sheet::judging::Places;
+use truths::filling::fill_words;
+use truths::plans::plan_guards;
+ghost use mathlib.Core.Path.{_≡_};
+ghost use Rattle.sheet.specs.Verdict.{Stands};
+ghost use Rattle.blocks.specs.Search.{CellsOf, Tables, BlockIs, Found};
+
+// The smallest configuration with a loop, or the largest number of moves.
+pub enum Outcome {
+    Loop(u32),
+    Free(usize),
+}
+
+// What the 64 configurations from `base` on do.
+fn block<'a>(
+    n: usize,
+    kinds: &'a [u8],
+    sizes: &'a [u16],
+    masks: &'a [u32],
+    lows: &'a [u64],
+    places: &'a [usize],
+    targets: &'a [u8],
+    firsts: &'a [usize],
+    s: usize,
+    present: Present,
+    base: u32,
+    words: &mut [u64],
+    moves: &mut [u64],
+) -> Moves
+    requires { ⌜ Tables n (now kinds) (now masks) (now lows) (now places) (now targets) (now firsts) s present base (now words) (now moves) ⌝ }
+    ensures { λ r. ⌜ BlockIs n (now (kinds .entry)) (now (sizes .entry)) (now (masks .entry)) (now (lows .entry)) (now (places .entry)) (now (targets .entry)) (now (firsts .entry)) s present base r ⌝ }
+{
+    let counted = counted_lanes(present, base);
+    if counted == 0 {
+        return Moves::Longest(0);
+    }
+    fill_words(n, kinds, sizes, masks, lows, base, words);
+    sort_lanes(places, targets, firsts, s, words, counted, moves);
+    count_moves(targets, firsts, s, moves, counted)
+}
+
+// The blocks of all configurations, rising.
+pub fn search(sheet: &[u8], p: Places, present: u8, cells: Cells) -> Outcome
+    requires { ⌜ Stands (now sheet) p × (CellsOf (now sheet) present cells) ⌝ }
+    ensures { λ r. ⌜ Found (now (sheet .entry)) present r ⌝ }
+{
+    let plan = plan_guards(body_of(sheet, p, GUARDS), cells);
+    let clauses = read_clauses(sheet, p);
+    let there = present_masks(cells, present);
+    let n = plan.count;
+    let s = clauses.states;
+    let names = cells.count;
+    let all: u32 = 1 << names;
+    let mut words = [0u64; 1024];
+    let mut moves = [0u64; 1024];
+    let mut longest = 0;
+    let mut next: u32 = 0;
+    while next < all {
+        let base = next;
+        let found = block(
+            n,
+            &plan.kinds,
+            &plan.sizes,
+            &plan.masks,
+            &plan.lows,
+            &clauses.places,
+            &clauses.targets,
+            &clauses.firsts,
+            s,
+            there,
+            base,
+            &mut words,
+            &mut moves,
+        );
+        next = next + 64;
+        match found {
+            Moves::Forever(w) => {
+                let k = base + lowest_lane(w);
+                return Outcome::Loop(k);
+            }
+            Moves::Longest(m) => {
+                if longest < m {
+                    longest = m;
+                }
+            }
+        }
+    }
+    Outcome::Free(longest)
+}

@@ -1,0 +1,4 @@
+pub mod LaneLaws
+pub mod MaskLaws
+pub mod CountingLaws
+pub mod Unique

@@ -1,0 +1,4 @@
+pub mod Lanes
+pub mod Masks
+pub mod Counting
+pub mod Unique

@@ -1,0 +1,4 @@
+pub mod PlanLaws
+pub mod WordLaws
+pub mod Truths
+pub mod Unique
