@@ -4,7 +4,7 @@ use Prim.Native.Nat.{ℕ, zero, suc, _+_, _-_, _*_, _^_, _<_, _≤_}
 use native.Mathlib.Omega.{arith}
 use native.Mathlib.Numerals.{add-one}
 use mathlib.Core.Path.{_≡_, refl, sym, ap, _∙_, fun-ext}
-use mathlib.Core.Bool.{Bool, true, false, _&&_, _||_}
+use mathlib.Core.Bool.{Bool, true, false, _&&_, _||_, or-false}
 use mathlib.Core.List.{List}
 use mathlib.Core.Logic.{_⊎_, inl, inr}
 use lib.Dec.{ltb}
@@ -55,12 +55,8 @@ module _ (targets : List ℕ) (s first : ℕ) (moves level : List ℕ) (q : ℕ)
     onward-past h =
         record {
           from = (let f = O .from in omega arith);
-          lanes = lanes-as (onward-to (n + 1)) (O .lanes) (λ i m. sym (one-more i ∙ rw (le-ltb (getD targets n 0) s h) (or-no (onward-to n i))));
+          lanes = lanes-as (onward-to (n + 1)) (O .lanes) (λ i m. sym (one-more i ∙ rw (le-ltb (getD targets n 0) s h) (or-false (onward-to n i))));
         }
-      where
-        or-no : (a : Bool) → (a || false) ≡ a
-        or-no true = refl
-        or-no false = refl
 
   pub onward-end : (n word last : ℕ) → OnwardTo n word → n ≤ last → last ≤ n → Onward targets s first last moves level q word
   unfolding onward-to
@@ -141,12 +137,8 @@ module _ (targets firsts : List ℕ) (s : ℕ) (moves : List ℕ) where
           record {
             round = stored;
             union = λ counted n L. rw add-one (lanes-as (λ i. some-below (suc m) (λ q. lane-can targets firsts s moves counted (suc n) q i)) (R .union counted n L)
-                (λ i u. let f = lanes-empty (N counted n L) z i u in rw f (or-no (some-below m (λ q. lane-can targets firsts s moves counted (suc n) q i)))));
+                (λ i u. let f = lanes-empty (N counted n L) z i u in rw f (sym (or-false (some-below m (λ q. lane-can targets firsts s moves counted (suc n) q i))))));
           }
-        where
-          or-no : (a : Bool) → a ≡ (a || false)
-          or-no true = refl
-          or-no false = refl
 
     pub rounds-end : (m : ℕ) (next : List ℕ) (all : ℕ) → Rounds targets firsts s moves level m next all → m ≤ s → s ≤ m → Rounds targets firsts s moves level s next all
     rounds-end m next all R a b = let z : m ≡ s = omega arith in rw z at R

@@ -1,11 +1,10 @@
 -- Laws about specs/Sorting.antt: what a clause more does to the words of a state's moves, and a state more.
 -- Assumes nothing.
-use Prim.Native.Nat.{ℕ, zero, suc, _+_, _-_, _*_, _^_, _<_, _≤_}
+use Prim.Native.Nat.{ℕ, suc, _+_, _-_, _*_, _^_, _<_, _≤_}
 use native.Mathlib.Omega.{arith}
-use native.Mathlib.Numerals.{add-one}
 use native.Mathlib.Decide.{ℕ-discrete}
 use mathlib.Core.Path.{_≡_, refl, sym, ap, _∙_}
-use mathlib.Core.Bool.{Bool, true, false, _&&_, _||_, not}
+use mathlib.Core.Bool.{Bool, true, false, _&&_, _||_, not, and-true, and-false, or-false}
 use mathlib.Core.List.{List}
 use mathlib.Core.Logic.{_⊎_, inl, inr}
 use lib.Dec.{eqb}
@@ -19,7 +18,7 @@ use Rattle.model.proofs.Bits.{has-none}
 use Rattle.model.proofs.Masks.{has-and, has-or}
 use Rattle.lanes.specs.Lanes.{Lanes, opposite}
 use Rattle.lanes.proofs.LaneLaws.{lanes-own, lanes-not}
-use Rattle.arrows.specs.Sorting.{leads, move-word, Aims, NotAimed, Cleared, Sorted, SortedAll, Lent}
+use Rattle.arrows.specs.Sorting.{leads, move-word, Aims, NotAimed, Cleared, Sorted, SortedAll}
 
 -- a clause of those before the last but one, or the last
 aimed-before : (targets : List ℕ) (s first n m t : ℕ) → Aims targets s first (n + 1) m t → (m ≡ n) ⊎ Aims targets s first n m t
@@ -100,6 +99,9 @@ one-lane false true true false l = refl
 one-lane false true false a l = refl
 one-lane false false h a l = refl
 
+none-taken : (a b : Bool) → a ≡ (a || (b && false))
+none-taken a b = rw (and-false b) (sym (or-false a))
+
 module _ (places targets : List ℕ) (s first last : ℕ) (words : List ℕ) (counted q : ℕ) where
   pub sort-start : (before moves : List ℕ) → Cleared targets s first last q before moves → first ≤ last → counted < 2 ^ 64 → Sorting places targets s first last words counted q moves first counted moves
   sort-start before moves C l c =
@@ -153,29 +155,17 @@ module _ (places targets : List ℕ) (s first last : ℕ) (words : List ℕ) (co
         own : Aims targets s first last n T
         own = record { from = S .from; below = l; small = tl; target = sym e }
 
-        v : ℕ
-        v = bitOr (move-word moves q T) (bitAnd remaining w)
-
         at-small : (m t : ℕ) → Aims targets s first last m t → Dec (T ≡ t) → move-word (set moves (q * 32 + T) (bitOr (move-word moves q T) (bitAnd remaining w))) q t < 2 ^ 64
         at-small m t A (yes z) = rw (← z, stored-here q moves T (bitOr (move-word moves q T) (bitAnd remaining w)) long row) (or-lt 64 (move-word moves q T) (bitAnd remaining w) (S .small n T own) taken)
         at-small m t A (no d) = rw (stored-other q moves T (bitOr (move-word moves q T) (bitAnd remaining w)) long row t d) (S .small m t A)
-
-        and-yes : (a b : Bool) → (a || b) ≡ (a || (b && true))
-        and-yes a true = refl
-        and-yes a false = refl
-
-        and-no : (a b : Bool) → a ≡ (a || (b && false))
-        and-no true b = refl
-        and-no false true = refl
-        and-no false false = refl
 
         at-bit : (t i : ℕ) → Dec (T ≡ t)
             → has (move-word (set moves (q * 32 + T) (bitOr (move-word moves q T) (bitAnd remaining w))) q t) i ≡ (has (move-word moves q t) i || (has (bitAnd remaining w) i && eqb (getD targets n 0) t))
         at-bit t i (yes z) =
             rw (← e, ← z, stored-here q moves T (bitOr (move-word moves q T) (bitAnd remaining w)) long row, eq-eqb T T refl, has-or (move-word moves q T) (bitAnd remaining w) i)
-            (and-yes (has (move-word moves q T) i) (has (bitAnd remaining w) i))
+            (ap (λ (b : Bool). has (move-word moves q T) i || b) (sym (and-true (has (bitAnd remaining w) i))))
         at-bit t i (no d) =
-            rw (← e, stored-other q moves T (bitOr (move-word moves q T) (bitAnd remaining w)) long row t d, ne-eqb T t d) (and-no (has (move-word moves q t) i) (has (bitAnd remaining w) i))
+            rw (← e, stored-other q moves T (bitOr (move-word moves q T) (bitAnd remaining w)) long row t d, ne-eqb T t d) (none-taken (has (move-word moves q t) i) (has (bitAnd remaining w) i))
 
     pub sort-past : s ≤ getD targets n 0 → Sorting places targets s first last words counted q before (n + 1) (bitAnd remaining (opposite w)) moves
     sort-past h =
@@ -186,14 +176,9 @@ module _ (places targets : List ℕ) (s first last : ℕ) (words : List ℕ) (co
           small-rest = left;
           small = S .small;
           sums = λ m t i A il. next-sums m t i (move-word moves q t) A il
-              (rw (ne-eqb (getD targets n 0) t (λ z. let a = A .small in omega arith)) (and-no (has (move-word moves q t) i) (has (bitAnd remaining w) i)));
+              (rw (ne-eqb (getD targets n 0) t (λ z. let a = A .small in omega arith)) (none-taken (has (move-word moves q t) i) (has (bitAnd remaining w) i)));
           kept = S .kept;
         }
-      where
-        and-no : (a b : Bool) → a ≡ (a || (b && false))
-        and-no true b = refl
-        and-no false true = refl
-        and-no false false = refl
 
   pub sort-end : (before cleared : List ℕ) (n remaining : ℕ) (moves : List ℕ) → Cleared targets s first last q before cleared → Sorting places targets s first last words counted q cleared n remaining moves → last ≤ n
       → Sorted places targets s first last words counted q before moves
@@ -206,15 +191,10 @@ module _ (places targets : List ℕ) (s first last : ℕ) (words : List ℕ) (co
           lane = λ i il.
               let z : last - n ≡ 0 = omega arith in
               let b = rw z at (S .sums m t i A il) in
-              none-left (has (move-word moves q t) i) (has remaining i) ∙ b;
+              none-taken (has (move-word moves q t) i) (has remaining i) ∙ b;
         };
         kept = λ x h. S .kept x h ∙ C .kept x h;
       }
-    where
-      none-left : (a b : Bool) → a ≡ (a || (b && false))
-      none-left true b = refl
-      none-left false true = refl
-      none-left false false = refl
 
 -- a state more
 module _ (places targets firsts : List ℕ) (s : ℕ) (words : List ℕ) (counted : ℕ) (before : List ℕ) where

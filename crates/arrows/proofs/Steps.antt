@@ -1,10 +1,10 @@
 -- From words to moves: where the words of the clauses' guards are their truths, the sorted words are the tree's next moves, and the levels
 -- say how many moves can be made.
 -- Assumes nothing.
-use Prim.Native.Nat.{ℕ, zero, suc, _+_, _-_, _*_, _<_, _≤_}
+use Prim.Native.Nat.{ℕ, zero, suc, _+_, _-_, _<_}
 use native.Mathlib.Omega.{arith}
 use mathlib.Core.Path.{_≡_, refl, sym, ap, _∙_}
-use mathlib.Core.Bool.{Bool, true, false, _&&_}
+use mathlib.Core.Bool.{Bool, true, false, _&&_, and-true}
 use mathlib.Core.List.{List, [], _∷_}
 use mathlib.Core.Option.{Option, none, some}
 use lib.Dec.{eqb, ltb}
@@ -15,7 +15,7 @@ use Rattle.model.specs.Tree.{Child, Referrer, move-to, run, stay, When, Class}
 use Rattle.model.specs.Guards.{holds}
 use Rattle.model.specs.Moves.{Next, after, can, is-at, Within}
 use Rattle.model.specs.Node.{state-of, found, first-true, probe, turn-for, turn, moved, next}
-use Rattle.model.proofs.Words.{clash, both-ways, and-left, and-right, and-both, some-below-intro, some-below-elim, true-not-false}
+use Rattle.model.proofs.Words.{clash, both-ways, and-left, and-right, and-both, some-below-intro, some-below-elim}
 use Rattle.lanes.specs.Lanes.{Lanes}
 use Rattle.arrows.specs.Sorting.{aim, leads, move-word, Aims}
 use Rattle.arrows.specs.Levels.{moves-on, lane-can}
@@ -140,9 +140,5 @@ module _ (targets firsts : List ℕ) (s : ℕ) (moves : List ℕ) (counted : ℕ
 
   pub lane-steps : (n q i : ℕ) → q < s → i < 64 → lane-can targets firsts s moves counted n q i ≡ (has counted i && can (step i) n q)
   unfolding lane-can can after
-  lane-steps zero q i ql il = and-yes (has counted i)
-    where
-      and-yes : (a : Bool) → a ≡ (a && true)
-      and-yes true = refl
-      and-yes false = refl
+  lane-steps zero q i ql il = sym (and-true (has counted i))
   lane-steps (suc n) q i ql il = one-step n q i ql il (λ t l. lane-steps n t i l il)

@@ -1,12 +1,10 @@
 -- The promises of the public functions of this floor leave one answer, and one content of a lent table.
 -- Assumes nothing.
 use Prim.Native.Nat.{ℕ}
-use mathlib.Core.Path.{_≡_}
 use mathlib.Core.List.{List}
 use Rattle.model.specs.Unique.{LeavesOne}
 use Rattle.arrows.specs.Sorting.{SortedAll}
 use Rattle.arrows.specs.Levels.{LevelsAre}
-use Rattle.arrows.specs.declared.levels.Moves.{Moves}
 
 pub record Unique : Type 0 where
   pub sorting : (places targets firsts : List ℕ) (s : ℕ) (words : List ℕ) (counted : ℕ) (before : List ℕ) → LeavesOne (SortedAll places targets firsts s s words counted before)

@@ -1,9 +1,9 @@
 // How many moves can be made: round by round the lanes in which n moves can be made from each state.
 use crate::sorting::wide;
 ghost use mathlib.Core.Path.{_≡_};
-ghost use Prim.Native.Nat.{_<_, _≤_};
-ghost use lib.ListN.{length, getD};
-ghost use Rattle.arrows.specs.Sorting.{Ranges, Lent};
+ghost use Prim.Native.Nat.{_<_};
+ghost use lib.ListN.{length};
+ghost use Rattle.arrows.specs.Sorting.{Lent};
 ghost use Rattle.arrows.specs.Levels.{LevelsLent, Onward, Rounds, LevelsAre};
 
 // What the lanes of a block do: some of them move for ever, or none makes more than so many moves and one makes so many.

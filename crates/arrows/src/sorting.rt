@@ -1,8 +1,8 @@
 // First true by words: the lanes of each state, sorted by where its next move leads.
 use lanes::words::word_at;
 ghost use mathlib.Core.Path.{_≡_};
-ghost use Prim.Native.Nat.{_<_, _≤_};
-ghost use lib.ListN.{length, getD};
+ghost use Prim.Native.Nat.{_<_};
+ghost use lib.ListN.{length};
 ghost use Rattle.arrows.specs.Sorting.{Ranges, Lent, Cleared, Sorted, SortedAll};
 
 // The when clauses of a class: where the guard of each stands, the own state that it moves to (255 where it does not move), and the first

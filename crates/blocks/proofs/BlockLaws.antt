@@ -3,16 +3,15 @@
 use Prim.Native.Nat.{ℕ, zero, suc, _+_, _-_, _%_, _<_, _≤_}
 use native.Mathlib.Omega.{arith}
 use mathlib.Core.Path.{_≡_, refl, sym, ap, _∙_}
-use mathlib.Core.Bool.{Bool, true, false, _&&_, _||_}
+use mathlib.Core.Bool.{Bool, true, false, _&&_, _||_, and-false}
 use mathlib.Core.List.{List}
 use mathlib.Core.Logic.{_⊎_, inl, inr}
 use lib.ListN.{length, getD}
 use Rattle.model.specs.Words.{has, some-below}
-use Rattle.model.specs.Tree.{Child, everyone, any-in, atom, stay, When}
+use Rattle.model.specs.Tree.{everyone, any-in, atom, stay, When}
 use Rattle.model.specs.Moves.{can}
-use Rattle.model.specs.Node.{own-states, state-of, next}
+use Rattle.model.specs.Node.{own-states, state-of}
 use Rattle.model.specs.Sound.{Sound}
-use Rattle.model.specs.Guards.{holds}
 use Rattle.model.proofs.Words.{true-not-false, and-left, and-right}
 use Rattle.model.proofs.NodeLaws.{next-within}
 use Rattle.records.specs.Bytes.{in-fours}
@@ -23,7 +22,7 @@ use Rattle.sheet.specs.declared.judging.Places.{Places}
 use Rattle.sheet.proofs.Reading.{child-classes-in}
 use Rattle.sheet.proofs.Sound.{sound}
 use Rattle.model.specs.Crews.{child-classes}
-use Rattle.configurations.specs.Configurations.{cells, chosen, list-of}
+use Rattle.configurations.specs.Configurations.{cells, list-of}
 use Rattle.configurations.specs.LoopAnswer.{counts, has-loop}
 use Rattle.configurations.specs.Blocks.{next-in, BlockLongest}
 use Rattle.configurations.proofs.Blocks.{loop-counts}
@@ -48,11 +47,7 @@ use Rattle.blocks.proofs.ClauseLaws.{states-few, states-some, classes-f
 -- a test that is true of some number below n, and of which one part is the same for all
 some-both : (b : Bool) (n : ℕ) (f g : ℕ → Bool) → ((q : ℕ) → q < n → f q ≡ (b && g q)) → some-below n f ≡ (b && some-below n g)
 unfolding some-below
-some-both b zero f g h = none b
-  where
-    none : (b : Bool) → false ≡ (b && false)
-    none true = refl
-    none false = refl
+some-both b zero f g h = sym (and-false b)
 some-both b (suc n) f g h = rw (some-both b n f g (λ q l. h q (omega arith)), h n (omega arith)) (go b (some-below n g) (g n))
   where
     go : (b x y : Bool) → ((b && x) || (b && y)) ≡ (b && (x || y))
@@ -64,7 +59,7 @@ abbrev no-when : When
 no-when = record { guard = atom any-in everyone 0; referrer = stay }
 
 module _ (b : List ℕ) (p : Places) (present n : ℕ) (kinds sizes masks lows places targets firsts : List ℕ) (s : ℕ) (there : Present)
-    (T : TablesOf b p present n kinds sizes masks lows places targets firsts s there) where
+    (T : TablesOf b p present (record { kinds = kinds; sizes = sizes; masks = masks; lows = lows; count = n }) (record { places = places; targets = targets; firsts = firsts; states = s }) there) where
   abbrev clauses : Clauses
   clauses = record { places = places; targets = targets; firsts = firsts; states = s }
 
@@ -75,7 +70,7 @@ module _ (b : List ℕ) (p : Places) (present n : ℕ) (kinds sizes masks lows p
   is-sound = sound b (T .bytes) (T .stands .accepted)
 
   pub states-own : s ≡ own-states (class-of b)
-  states-own = T .clauses .number ∙ sym (states-are b p (T .stands))
+  states-own = T .listed .number ∙ sym (states-are b p (T .stands))
 
   classes-most : child-classes (class-of b) ≤ 8
   unfolding class-of bodies
@@ -101,25 +96,25 @@ module _ (b : List ℕ) (p : Places) (present n : ℕ) (kinds sizes masks lows p
           → Told places targets words i (list-of (class-of b) present (base + i)) a (getD (state-of (class-of b) q .whens) j no-when)
       unfolding true-in list-of when-in bodies
       told i il q ql j a e l =
-          let low : q < in-fours (body b 1) = (let z = T .clauses .number in omega arith) in
+          let low : q < in-fours (body b 1) = (let z = T .listed .number in omega arith) in
           let m : j < when-count (body b 1) q = (let z = when-number b p (T .stands) q low in omega arith) in
-          let first : getD firsts q 0 ≡ first-when (body b 1) q = T .clauses .firsts-right .first q (omega arith) in
+          let first : getD firsts q 0 ≡ first-when (body b 1) q = T .listed .firsts-right .first q (omega arith) in
           let z : first-when (body b 1) q + j ≡ a = omega arith in
-          let (x, y) = span b p (T .stands) clauses (T .clauses) q ql in
+          let (x, y) = span b p (T .stands) clauses (T .listed) q ql in
           let inside : a < in-fours (body b 2) = omega arith in
           let (u, v) = guard-read b p (T .stands) a inside in
           let w : getD (state-of (class-of b) q .whens) j no-when ≡ when-in (bodies b) a = when-of b p (T .stands) q j no-when low m ∙ ap (when-in (bodies b)) z in
           rw w
           (record {
-            truth = rw (T .clauses .whens .place a inside) (truth-right (body b 3) (cells (class-of b) present) plan (T .planned) base round before words F (guard-place (body b 2) a) (when-in (bodies b) a .guard) u v .lane i il);
-            target = T .clauses .whens .aims a inside;
+            truth = rw (T .listed .whens .place a inside) (truth-right (body b 3) (cells (class-of b) present) plan (T .planned) base round before words F (guard-place (body b 2) a) (when-in (bodies b) a .guard) u v .lane i il);
+            target = T .listed .whens .aims a inside;
           })
 
       module _ (old moves : List ℕ) (A : SortedAll places targets firsts s s words cw old moves) where
         long : (q : ℕ) → q < s → getD firsts (q + 1) 0 - getD firsts q 0 ≡ length (state-of (class-of b) q .whens)
         long q ql =
-            let (x, y) = span b p (T .stands) clauses (T .clauses) q ql in
-            let z = when-number b p (T .stands) q (let e = T .clauses .number in omega arith) in
+            let (x, y) = span b p (T .stands) clauses (T .listed) q ql in
+            let z = when-number b p (T .stands) q (let e = T .listed .number in omega arith) in
             omega arith
 
         -- the moves of the block are the class's
@@ -130,7 +125,7 @@ module _ (b : List ℕ) (p : Places) (present n : ℕ) (kinds sizes masks lows p
               word = λ q ql m t a. lanes-as (λ i. has cw i && _) (A .sorted q ql m t a)
                   (λ i il. ap (λ (x : Bool). has cw i && x)
                   (leads-next places targets words i (list-of (class-of b) present (base + i)) no-when (class-of b) q (getD firsts q 0) (getD firsts (q + 1) 0) (long q ql) (told i il q ql) t
-                  (let e = T .clauses .number in let f = states-few b p (T .stands) in let u = a .small in omega arith)));
+                  (let e = T .listed .number in let f = states-few b p (T .stands) in let u = a .small in omega arith)));
               aimed = λ i q t il ql e. next-aims places targets words i (list-of (class-of b) present (base + i)) no-when (class-of b) q (getD firsts q 0) (getD firsts (q + 1) 0) (long q ql) (told i il q ql) s t
                   (rw states-own (next-within (class-of b) (list-of (class-of b) present (base + i)) is-sound q t e)) e;
             }

@@ -1,28 +1,27 @@
 -- Laws about specs/ClauseTables.antt: a state and a clause more, and that the tables of an accepted sheet are its class's clauses.
 -- Assumes nothing.
-use Prim.Native.Nat.{ℕ, zero, suc, _+_, _-_, _*_, _/_, _<_, _≤_}
+use Prim.Native.Nat.{ℕ, suc, _+_, _*_, _/_, _<_, _≤_}
 use native.Mathlib.Omega.{arith}
 use native.Mathlib.Numerals.{add-one}
 use mathlib.Core.Path.{_≡_, refl, sym, ap, _∙_, subst}
-use mathlib.Core.Bool.{Bool, true, false, _&&_}
-use mathlib.Core.List.{List, [], _∷_}
-use mathlib.Core.Logic.{_⊎_, inl, inr}
+use mathlib.Core.Bool.{true}
+use mathlib.Core.List.{List}
 use lib.Dec.{eqb}
 use lib.ListN.{length, getD, set, length-set, replicate}
 use lib.Seq.{getD-set-same, getD-set-other}
 use borrow.Author.Tests.{eqb-true}
-use Rattle.model.specs.Words.{total, listed}
-use Rattle.model.specs.Tree.{Referrer, When, State, Guard}
+use Rattle.model.specs.Words.{total}
+use Rattle.model.specs.Tree.{Referrer, When}
 use Rattle.model.specs.Node.{own-states, state-of}
-use Rattle.model.proofs.Words.{below-next, and-left, each-elim, clash, lt-or-le}
-use Rattle.model.proofs.Lists.{getD-listed}
-use Rattle.records.specs.Bytes.{in-fours, in-eights}
-use Rattle.records.specs.GuardRecords.{Read, got, broken, by-read, is-read, guard-from}
+use Rattle.model.proofs.Words.{below-next, and-left, each-elim, clash}
+use Rattle.model.proofs.Lists.{getD-listed, getD-zeros}
+use Rattle.records.specs.Bytes.{in-fours}
+use Rattle.records.specs.GuardRecords.{Read, got, broken, is-read, guard-from}
 use Rattle.bodies.specs.Clauses.{count-sum, when-count, first-when, guard-place, referrer-number, target, referrer-of}
 use Rattle.bodies.specs.BodyRules.{guards-right, counts-right}
 use Rattle.bodies.proofs.StatementLaws.{sum-inside}
 use Rattle.sheet.specs.Contents.{body, bodies}
-use Rattle.sheet.specs.Reading.{guard-in, when-in, state-in, class-in, class-of}
+use Rattle.sheet.specs.Reading.{guard-in, when-in, state-in, class-of}
 use Rattle.sheet.specs.Verdict.{Stands}
 use Rattle.sheet.specs.declared.judging.Places.{Places}
 use Rattle.sheet.proofs.Contents.{counted, body-most, body-whole}
@@ -33,12 +32,6 @@ use Rattle.arrows.specs.Sorting.{aim, Ranges}
 use Rattle.arrows.specs.declared.sorting.Clauses.{Clauses}
 use Rattle.blocks.specs.ClauseTables.{FirstsOf, WhensOf, ClausesOf}
 
--- a table of zeros
-zeros : (n j : ℕ) → getD {A = ℕ} (replicate n 0) j 0 ≡ 0
-zeros zero j = refl
-zeros (suc n) zero = refl
-zeros (suc n) (suc j) = zeros n j
-
 -- the firsts of the first n states
 pub record FirstsTo (states firsts : List ℕ) (n : ℕ) : Type 0 where
   pub few : n ≤ in-fours states + 1
@@ -48,7 +41,7 @@ pub record FirstsTo (states firsts : List ℕ) (n : ℕ) : Type 0 where
 
 module _ (states : List ℕ) where
   pub firsts-start : FirstsTo states (replicate 33 0) 0
-  firsts-start = record { few = omega arith; long = refl; first = λ q l. absurd (omega arith); no-first = λ q l. zeros 33 q }
+  firsts-start = record { few = omega arith; long = refl; first = λ q l. absurd (omega arith); no-first = λ q l. getD-zeros 33 q }
 
   pub firsts-more : (firsts : List ℕ) (n v s : ℕ) → FirstsTo states firsts n → s ≡ in-fours states → n ≤ s → s ≤ 32 → v ≡ first-when states n → FirstsTo states (set firsts n v) (n + 1)
   firsts-more firsts n v s F e l m h =
@@ -75,8 +68,8 @@ module _ (whens : List ℕ) where
         targets-long = refl;
         place = λ w l. absurd (omega arith);
         aims = λ w l. absurd (omega arith);
-        no-place = λ w l. zeros 256 w;
-        no-aim = λ w l. zeros 256 w;
+        no-place = λ w l. getD-zeros 256 w;
+        no-aim = λ w l. getD-zeros 256 w;
       }
 
   pub whens-more : (n : ℕ) (places targets : List ℕ) (g t : ℕ) (r : Referrer) → WhensOf whens n places targets → n < 256 → g ≡ guard-place whens n

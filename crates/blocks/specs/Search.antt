@@ -12,7 +12,7 @@ use Rattle.sheet.specs.Reading.{class-of}
 use Rattle.sheet.specs.Verdict.{Stands}
 use Rattle.sheet.specs.declared.judging.Places.{Places}
 use Rattle.model.specs.Words.{Bytes}
-use Rattle.configurations.specs.Configurations.{cells}
+use Rattle.configurations.specs.Configurations.{cells, name-count}
 use Rattle.configurations.specs.Cells.{AllSmall, cells-of}
 use Rattle.configurations.specs.LoopAnswer.{free, loop-in, has-loop, loop-answer}
 use Rattle.configurations.specs.Blocks.{BlockLongest}
@@ -21,8 +21,10 @@ use Rattle.lanes.specs.Lanes.{Lanes, in-block}
 use Rattle.lanes.specs.Counting.{LowWords, Counts}
 use Rattle.lanes.specs.declared.counting.Present.{Present}
 use Rattle.truths.specs.Plans.{Planned}
+use Rattle.truths.specs.declared.plans.Plan.{Plan}
 use Rattle.truths.specs.Words.{Lent}
 use Rattle.arrows.specs.Sorting.{Ranges}
+use Rattle.arrows.specs.declared.sorting.Clauses.{Clauses}
 use Rattle.arrows.specs.declared.levels.Moves.{Moves}
 use Rattle.arrows.specs.declared.levels.Moves.the-variants.{Forever, Longest}
 use Rattle.blocks.specs.ClauseTables.{ClausesOf}
@@ -51,13 +53,23 @@ pub record Tables (n : ℕ) (kinds masks lows places targets firsts : List ℕ) 
   pub lows-right : LowWords (present .masks) (present .lows)
 
 -- the tables are those of a sheet and its present child classes
-pub record TablesOf (b : List ℕ) (p : Places) (present : ℕ) (n : ℕ) (kinds sizes masks lows places targets firsts : List ℕ) (s : ℕ) (there : Present) : Type 0 where
+pub record TablesOf (b : List ℕ) (p : Places) (present : ℕ) (plan : Plan) (clauses : Clauses) (there : Present) : Type 0 where
   pub bytes : Bytes b
   pub stands : Stands b p
   pub below : (i : ℕ) → has present i ≡ true → i < child-classes (class-of b)
-  pub planned : Planned (body b 3) (cells (class-of b) present) (record { kinds = kinds; sizes = sizes; masks = masks; lows = lows; count = n })
-  pub clauses : ClausesOf b (record { places = places; targets = targets; firsts = firsts; states = s })
+  pub planned : Planned (body b 3) (cells (class-of b) present) plan
+  pub listed : ClausesOf b clauses
   pub counts : Counts (cells (class-of b) present) present there
+
+-- the tables are long enough to be lent to every block
+pub record Ready (plan : Plan) (clauses : Clauses) (there : Present) : Type 0 where
+  pub few : plan .count ≤ 1024
+  pub of-kinds : length (plan .kinds) ≡ 1024
+  pub of-masks : length (plan .masks) ≡ 1024
+  pub of-lows : length (plan .lows) ≡ 1024
+  pub ranges : Ranges (clauses .places) (clauses .targets) (clauses .firsts) (clauses .states)
+  pub some-state : 0 < clauses .states
+  pub lows-right : LowWords (there .masks) (there .lows)
 
 -- what the configurations of the block at base do
 abbrev pub BlockDoes : List ℕ → ℕ → ℕ → Moves → Type 0
@@ -66,4 +78,9 @@ BlockDoes b present base (Longest n) = BlockLongest (class-of b) present base n
 
 -- of whatever sheet the tables are
 pub record BlockIs (n : ℕ) (kinds sizes masks lows places targets firsts : List ℕ) (s : ℕ) (there : Present) (base : ℕ) (r : Moves) : Type 0 where
-  pub does : (b : List ℕ) (p : Places) (present : ℕ) → TablesOf b p present n kinds sizes masks lows places targets firsts s there → BlockDoes b present base r
+  pub does : (b : List ℕ) (p : Places) (present : ℕ)
+      → TablesOf b p present (record { kinds = kinds; sizes = sizes; masks = masks; lows = lows; count = n }) (record { places = places; targets = targets; firsts = firsts; states = s }) there
+      → BlockDoes b present base r
+
+pub record Finds (plan : Plan) (clauses : Clauses) (there : Present) (names : ℕ) (r : Outcome) : Type 0 where
+  pub finds : (b : List ℕ) (p : Places) (present : ℕ) → TablesOf b p present plan clauses there → names ≡ name-count (class-of b) present → Found b present r

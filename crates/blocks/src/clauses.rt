@@ -13,7 +13,6 @@ use records::words::in_fours;
 use sheet::judging::Places;
 ghost use mathlib.Core.Path.{_≡_};
 ghost use Prim.Native.Nat.{_≤_};
-ghost use lib.ListN.{length};
 ghost use Rattle.model.specs.Answers.{referrer-as};
 ghost use Rattle.records.specs.Bytes.{in-fours};
 ghost use Rattle.sheet.specs.Verdict.{Stands};

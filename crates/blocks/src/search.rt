@@ -4,6 +4,7 @@ use accepted::held::GUARDS;
 use accepted::readers::body_of;
 use arrows::levels::Moves;
 use arrows::levels::count_moves;
+use arrows::sorting::Clauses;
 use arrows::sorting::sort_lanes;
 use configurations::Cells;
 use lanes::counting::Present;
@@ -12,10 +13,12 @@ use lanes::counting::present_masks;
 use lanes::words::lowest_lane;
 use sheet::judging::Places;
 use truths::filling::fill_words;
+use truths::plans::Plan;
 use truths::plans::plan_guards;
 ghost use mathlib.Core.Path.{_≡_};
+ghost use Prim.Native.Nat.{_≤_, max};
 ghost use Rattle.sheet.specs.Verdict.{Stands};
-ghost use Rattle.blocks.specs.Search.{CellsOf, Tables, BlockIs, Found};
+ghost use Rattle.blocks.specs.Search.{CellsOf, Tables, BlockIs, Ready, Finds, Found};
 
 // The smallest configuration with a loop, or the largest number of moves.
 pub enum Outcome {
@@ -51,17 +54,21 @@ fn block<'a>(
     count_moves(targets, firsts, s, moves, counted)
 }
 
-// The blocks of all configurations, rising.
-pub fn search(sheet: &[u8], p: Places, present: u8, cells: Cells) -> Outcome
-    requires { ⌜ Stands (now sheet) p × (CellsOf (now sheet) present cells) ⌝ }
-    ensures { λ r. ⌜ Found (now (sheet .entry)) present r ⌝ }
+// The larger of two numbers.
+fn larger(x: usize, y: usize) -> usize
+    ensures { λ r. ⌜ r ≡ max x y ⌝ }
 {
-    let plan = plan_guards(body_of(sheet, p, GUARDS), cells);
-    let clauses = read_clauses(sheet, p);
-    let there = present_masks(cells, present);
-    let n = plan.count;
-    let s = clauses.states;
-    let names = cells.count;
+    if x < y {
+        return y;
+    }
+    x
+}
+
+// The blocks of all configurations of so many names, rising.
+fn try_blocks(plan: Plan, clauses: Clauses, there: Present, names: usize) -> Outcome
+    requires { ⌜ Ready plan clauses there × (names ≤ 20) ⌝ }
+    ensures { λ r. ⌜ Finds plan clauses there names r ⌝ }
+{
     let all: u32 = 1 << names;
     let mut words = [0u64; 1024];
     let mut moves = [0u64; 1024];
@@ -70,7 +77,7 @@ pub fn search(sheet: &[u8], p: Places, present: u8, cells: Cells) -> Outcome
     while next < all {
         let base = next;
         let found = block(
-            n,
+            plan.count,
             &plan.kinds,
             &plan.sizes,
             &plan.masks,
@@ -78,7 +85,7 @@ pub fn search(sheet: &[u8], p: Places, present: u8, cells: Cells) -> Outcome
             &clauses.places,
             &clauses.targets,
             &clauses.firsts,
-            s,
+            clauses.states,
             there,
             base,
             &mut words,
@@ -91,11 +98,19 @@ pub fn search(sheet: &[u8], p: Places, present: u8, cells: Cells) -> Outcome
                 return Outcome::Loop(k);
             }
             Moves::Longest(m) => {
-                if longest < m {
-                    longest = m;
-                }
+                longest = larger(longest, m);
             }
         }
     }
     Outcome::Free(longest)
+}
+
+// The search on an accepted sheet: its tables made once, then the blocks.
+pub fn search(sheet: &[u8], p: Places, present: u8, cells: Cells) -> Outcome
+    requires { ⌜ Stands (now sheet) p × (CellsOf (now sheet) present cells) ⌝ }
+    ensures { λ r. ⌜ Found (now (sheet .entry)) present r ⌝ }
+{
+    let plan = plan_guards(body_of(sheet, p, GUARDS), cells);
+    let clauses = read_clauses(sheet, p);
+    try_blocks(plan, clauses, present_masks(cells, present), cells.count)
 }

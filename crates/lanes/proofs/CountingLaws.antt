@@ -4,7 +4,7 @@ use Prim.Native.Nat.{ℕ, suc, _+_, _/_, _%_, _^_, _<_, _≤_}
 use native.Mathlib.Omega.{arith}
 use native.Mathlib.Numerals.{add-one}
 use mathlib.Core.Path.{_≡_, refl, sym, ap, _∙_, fun-ext}
-use mathlib.Core.Bool.{Bool, true, false, _&&_, _||_, not}
+use mathlib.Core.Bool.{Bool, true, false, _&&_, _||_, not, and-true}
 use mathlib.Core.List.{List}
 use lib.Dec.{eqb}
 use lib.Bits.{bitAnd}
@@ -29,11 +29,7 @@ use Rattle.lanes.proofs.MaskLaws.{some-meets, block-lanes}
 -- the cells of a class are those whose names are not in the empty set
 class-wanted : (xs : List Child) (i : ℕ) → marked (wanted (of-class i) 0 false) xs ≡ class-mask xs i
 unfolding wanted concerns
-class-wanted xs i = ap (λ (f : Child → Bool). marked f xs) (fun-ext λ k. ap (λ (b : Bool). eqb (k .class) i && not b) (has-none (k .name)) ∙ and-yes (eqb (k .class) i))
-  where
-    and-yes : (a : Bool) → (a && true) ≡ a
-    and-yes true = refl
-    and-yes false = refl
+class-wanted xs i = ap (λ (f : Child → Bool). marked f xs) (fun-ext λ k. ap (λ (b : Bool). eqb (k .class) i && not b) (has-none (k .name)) ∙ and-true (eqb (k .class) i))
 
 -- the masks and low words of the first n classes
 pub record Counted (xs : List Child) (n : ℕ) (masks lows : List ℕ) : Type 0 where

@@ -20,7 +20,7 @@ use Rattle.model.proofs.Masks.{shifted, some-met}
 use Rattle.configurations.specs.Configurations.{chosen, bit, marked}
 use Rattle.configurations.specs.Cells.{cells-from}
 use Rattle.lanes.specs.Lanes.{Lanes, all-lanes, opposite, in-block}
-use Rattle.lanes.specs.Masks.{child, meets, block-word, agrees, wanted, inside, turned, atom-mask, true-in}
+use Rattle.lanes.specs.Masks.{child, meets, block-word, agrees, wanted, turned, atom-mask, true-in}
 use Rattle.lanes.proofs.LaneLaws.{lanes-and, lanes-not, lanes-or, lanes-as, lanes-all, lanes-none}
 
 zero-sum : (a b : ℕ) → not (eqb (a + b) 0) ≡ (not (eqb a 0) || not (eqb b 0))

@@ -1,14 +1,12 @@
 -- The promises of this floor leave one answer.
 -- Assumes nothing.
-use Prim.Native.Nat.{ℕ, _<_}
+use Prim.Native.Nat.{ℕ}
 use native.Mathlib.Omega.{arith}
 use mathlib.Core.Path.{_≡_, sym, ap, _∙_}
 use mathlib.Core.List.{List}
-use lib.ListN.{length, getD}
+use lib.ListN.{getD}
 use lib.Seq.{ext-getD}
 use Rattle.model.specs.Tree.{Child}
-use Rattle.lanes.specs.Lanes.{Lanes}
-use Rattle.lanes.specs.Masks.{meets}
 use Rattle.lanes.specs.Counting.{Counts}
 use Rattle.lanes.specs.Unique.{Unique}
 use Rattle.lanes.specs.declared.counting.Present.{Present}

@@ -1,6 +1,6 @@
 -- An atom as a mask over the cells: in a configuration it goes by whether the two share a bit.
 -- Assumes nothing.
-use Prim.Native.Nat.{ℕ, _<_}
+use Prim.Native.Nat.{ℕ}
 use mathlib.Core.Bool.{Bool, true, false, _&&_, not}
 use mathlib.Core.List.{List}
 use lib.Dec.{eqb}

@@ -6,7 +6,7 @@ use mathlib.Core.Path.{_≡_, refl, _∙_, ap}
 use mathlib.Core.Bool.{Bool, true, false, _||_}
 use mathlib.Core.List.{List, [], _∷_, _++_, List·Memᴰ, List·Memᴰ·head, List·Memᴰ·tail, List·Memᴰ·not-nil, List·Memᴰ·cases-cons}
 use mathlib.Core.Logic.{_⊎_, inl, inr}
-use lib.ListN.{length, getD}
+use lib.ListN.{length, getD, replicate}
 use Rattle.model.specs.Words.{kept, keep, every, some-in, listed}
 use Rattle.model.proofs.Words.{clash, true-not-false, and-left, and-right, and-both, or-either, or-first, or-second}
 
@@ -123,3 +123,9 @@ pub listed-same {ℓ} : {A : Type ℓ} (i n : ℕ) (f g : ℕ → A) → ((j : �
 unfolding listed
 listed-same i zero f g h = refl
 listed-same i (suc n) f g h = rw (h i (omega arith), listed-same (suc i) n f g (λ j l. h j (omega arith)))
+
+-- a table of zeros, and what stands past its end
+pub getD-zeros : (n j : ℕ) → getD {A = ℕ} (replicate n 0) j 0 ≡ 0
+getD-zeros zero j = refl
+getD-zeros (suc n) zero = refl
+getD-zeros (suc n) (suc j) = getD-zeros n j

@@ -1,15 +1,16 @@
 -- Laws about specs/Plans.antt: a record more is planned, from the last to the first.
 -- Assumes nothing.
-use Prim.Native.Nat.{ℕ, zero, suc, _+_, _-_, _/_, _<_, _≤_}
+use Prim.Native.Nat.{ℕ, _+_, _-_, _/_, _<_, _≤_}
 use native.Mathlib.Omega.{arith}
 use mathlib.Core.Path.{_≡_, refl, sym, ap, _∙_}
 use mathlib.Core.Bool.{Bool}
 use mathlib.Core.List.{List}
 use mathlib.Core.Logic.{_⊎_, inl, inr}
-use lib.ListN.{length, getD, set, length-set, replicate, getD-replicate}
+use lib.ListN.{length, getD, set, length-set, replicate}
 use lib.Seq.{getD-set-same, getD-set-other}
 use Rattle.model.specs.Tree.{Child}
 use Rattle.model.proofs.Words.{lt-or-le}
+use Rattle.model.proofs.Lists.{getD-zeros}
 use Rattle.records.specs.GuardRecords.{guard-record}
 use Rattle.records.specs.Patterns.{pattern-as}
 use Rattle.records.specs.Records.{kind-as, record-as}
@@ -23,7 +24,6 @@ use Rattle.lanes.specs.Lanes.{Lanes}
 use Rattle.configurations.specs.Configurations.{marked}
 use Rattle.lanes.specs.Masks.{meets, wanted, inside, atom-mask}
 use Rattle.truths.specs.Plans.{record-number, record-mask, right-of, operator-size, record-size, Row, Planned}
-use Rattle.truths.specs.declared.plans.Plan.{Plan}
 
 -- the mask of an atom, by the fact that it looks for
 pub mask-told : (xs : List Child) (x : GuardRecord) (kind : Kind) (p : Pattern) (set m : ℕ) (b : Bool) → x ≡ Atom kind p set → b ≡ inside (kind-as kind)
@@ -77,12 +77,6 @@ pub record Planning (gs : List ℕ) (xs : List Child) (n : ℕ) (kinds sizes mas
   -- no guard reaches past the last record
   pub short : (j : ℕ) → i ≤ j → getD sizes j 0 ≤ n - j
 
--- a table of zeros
-zeros : (n j : ℕ) → getD {A = ℕ} (replicate n 0) j 0 ≡ 0
-zeros zero j = refl
-zeros (suc n) zero = refl
-zeros (suc n) (suc j) = zeros n j
-
 pub planning-start : (gs : List ℕ) (xs : List Child) (n : ℕ) → n ≡ length gs / 8 → length gs ≤ 8192
     → Planning gs xs n (replicate 1024 0) (replicate 1024 0) (replicate 1024 0) (replicate 1024 0) n
 planning-start gs xs n e l =
@@ -94,11 +88,11 @@ planning-start gs xs n e l =
       masks-long = refl;
       lows-long = refl;
       row = λ j a b. absurd (omega arith);
-      no-kind = λ j a. zeros 1024 j;
-      no-mask = λ j a. zeros 1024 j;
-      no-low = λ j a. zeros 1024 j;
-      no-size = λ j a. zeros 1024 j;
-      short = λ j a. let z = zeros 1024 j in omega arith;
+      no-kind = λ j a. getD-zeros 1024 j;
+      no-mask = λ j a. getD-zeros 1024 j;
+      no-low = λ j a. getD-zeros 1024 j;
+      no-size = λ j a. getD-zeros 1024 j;
+      short = λ j a. let z = getD-zeros 1024 j in omega arith;
     }
 
 module _ (gs : List ℕ) (xs : List Child) (n : ℕ) (kinds sizes masks lows : List ℕ) (i m : ℕ) (next : m ≡ i + 1) (P : Planning gs xs n kinds sizes masks lows m) where

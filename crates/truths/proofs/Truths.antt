@@ -1,15 +1,15 @@
 -- The words of a block are the truths of the guards: wherever a guard is read, at any depth, its word has the lanes in which it is true, and
 -- it ends where its size says.
 -- Assumes nothing.
-use Prim.Native.Nat.{ℕ, zero, suc, _+_, _%_, _/_, _<_, _≤_}
+use Prim.Native.Nat.{ℕ, zero, suc, _+_, _%_, _<_, _≤_}
 use native.Mathlib.Omega.{arith}
-use mathlib.Core.Path.{_≡_, refl, sym, ap, _∙_, subst}
+use mathlib.Core.Path.{_≡_, refl, ap, _∙_}
 use mathlib.Core.List.{List}
 use mathlib.Core.Logic.{_⊎_, inl, inr}
-use lib.ListN.{length, getD}
+use lib.ListN.{getD}
 use Rattle.model.specs.Tree.{Child, Guard, atom, both, either, opposite as not-guard}
 use Rattle.model.proofs.Words.{clash, lt-or-le}
-use Rattle.records.specs.GuardRecords.{Read, got, broken, by-read, two, one, unknown, guard-record, joined, shaped, guard-with, guard-at, guard-from}
+use Rattle.records.specs.GuardRecords.{Read, got, broken, by-read, two, one, joined, shaped, guard-with, guard-at, guard-from}
 use Rattle.records.specs.Patterns.{pattern-as}
 use Rattle.records.specs.Records.{kind-as, record-as}
 use Rattle.records.specs.declared.guards.Kind.{Kind}
@@ -21,7 +21,7 @@ use Rattle.records.specs.declared.guards.GuardRecord.the-variants.{Atom, Operat
 use Rattle.records.specs.declared.kinds.Pattern.{Pattern}
 use Rattle.records.proofs.GuardLaws.{record-past}
 use Rattle.lanes.specs.Lanes.{Lanes, in-block}
-use Rattle.lanes.specs.Masks.{meets, atom-mask, block-word, true-in}
+use Rattle.lanes.specs.Masks.{block-word, true-in}
 use Rattle.lanes.proofs.MaskLaws.{turned-word, atom-lanes, both-lanes, either-lanes, opposite-lanes}
 use Rattle.truths.specs.Plans.{atom-number, record-number, record-mask, right-of, record-size, Row, Planned}
 use Rattle.truths.specs.Words.{word-of, Filled}

@@ -8,7 +8,7 @@ use lanes::masks::block_word;
 use lanes::words::word_at;
 ghost use mathlib.Core.Path.{_≡_};
 ghost use Prim.Native.Nat.{_+_, _<_, _≤_};
-ghost use lib.ListN.{length, getD};
+ghost use lib.ListN.{getD};
 ghost use Rattle.truths.specs.Words.{word-of, Lent, Filled};
 
 // The word of an operator's right operand, which begins where the left one at record i ends.

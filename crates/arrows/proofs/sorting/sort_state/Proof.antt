@@ -1,7 +1,7 @@
 -- `sort_state`: after the clauses before m, the words have what these take, and the rest remains.
 -- Assumes nothing.
 use borrow.Author.Needs.{needs}
-use Prim.Native.Nat.{_-_, _≤_}
+use Prim.Native.Nat.{_-_}
 use native.Mathlib.Omega.{arith}
 use mathlib.Core.Path.{_∙_}
 use Rattle.arrows.proofs.SortingLaws.{Sorting, sort-start, sort-hit, sort-past, sort-end}

@@ -3,7 +3,7 @@
 use borrow.Author.Needs.{needs}
 use Prim.Native.Nat.{_-_, _≤_}
 use native.Mathlib.Omega.{arith}
-use mathlib.Core.Path.{ap, _∙_}
+use mathlib.Core.Path.{ap}
 use Rattle.records.specs.Bytes.{in-fours}
 use Rattle.blocks.specs.ClauseTables.{WhensOf}
 use Rattle.blocks.proofs.ClauseLaws.{whens-start, whens-more, whens-few, states-few, read-all}

@@ -1,7 +1,6 @@
 -- `block`: no lane counts, or the words, the moves and the levels follow one from the other.
 -- Assumes nothing.
 use borrow.Author.Needs.{needs}
-use native.Mathlib.Omega.{arith}
 use mathlib.Core.Path.{_∙_}
 use Rattle.blocks.proofs.BlockLaws.{lent-levels, block-skipped, block-is}
 use Rattle.blocks.proofs.search.block.Statement.{statement}

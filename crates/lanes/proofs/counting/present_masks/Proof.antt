@@ -2,7 +2,6 @@
 -- Assumes nothing.
 use borrow.Author.Needs.{needs}
 use Prim.Native.Nat.{_-_}
-use native.Mathlib.Omega.{arith}
 use mathlib.Core.Path.{refl}
 use Rattle.configurations.specs.Cells.{cells-of}
 use Rattle.lanes.proofs.CountingLaws.{Counted, counted-start, counted-more, counted-end}
