@@ -18,22 +18,27 @@ abbrev μ-loop : tie.MeasureT-loop
 loop-holds : tie.Need-loop-holds Inv-loop μ-loop
 loop-holds c = search-start _ _ _ _ _ _ _ (c .pre .1) refl refl refl
 
+-- the place before the block, from the one behind it
+abbrev turn : tie.After-block Inv-loop μ-loop → tie.At-loop Inv-loop μ-loop
+turn b = b .before .before .before .before .before .before .before .before .before .before .before .before .before .before .before .before .before .before .before .before
+
 block-requires : tie.Need-block-requires Inv-loop μ-loop
 block-requires c κs = let l = c .before .before .before .before .before .before .before .before .before .before .before .before .before .before .before .before .before .before .before in lent _ _ _ _ _ _ _ _ _ (l .loop .inv) (l .before .pre .0)
 
 add-next : tie.Need-add-next Inv-loop μ-loop
-add-next c = omega (arith, c .before .before .before .before .before .before .before .before .before .before .before .before .before .before .before .before .before .before .before .before .before .before .loop .inv .small)
+add-next c = omega (arith, turn (c .before .before) .loop .inv .small)
 
 add-k : tie.Need-add-k Inv-loop μ-loop
-add-k c = omega (arith, c .before .before .before .before .before .before .before .before .before .before .before .before .before .before .before .before .before .before .before .before .before .before .before .before .before .before .loop .inv .small, lowest-most _ _ (c .lowest-lane .ensures))
+add-k c = omega (arith, turn (c .before .before .before .before .before .before) .loop .inv .small, lowest-most _ _ (c .lowest-lane .ensures))
 
 returns : tie.Need-returns Inv-loop μ-loop
-returns c = search-loop _ _ _ _ _ _ _ _ _ (c .before .before .before .before .before .before .before .before .before .before .before .before .before .before .before .before .before .before .before .before .before .before .before .before .before .before .loop .inv) _ (c .before .before .before .before .before .before .block .ensures) _ _ (c .before .before .found .given .1) (c .lowest-lane .ensures)
+returns c = let b = c .before .before .before .before .before .before in search-loop _ _ _ _ _ _ _ _ _ (turn b .loop .inv) _ (b .block .ensures) _ _ (c .before .before .found .given .1) (c .lowest-lane .ensures)
 
 loop-again : tie.Need-loop-again Inv-loop μ-loop
 loop-again c =
-    let b = c .before .before .before .before .before .before .block in
-    search-more _ _ _ _ _ _ _ _ _ (c .before .before .before .before .before .before .before .before .before .before .before .before .before .before .before .before .before .before .before .before .before .before .before .before .before .before .loop .inv) _ (b .ensures) _ _ _ _ (c .before .before .before .before .before .before .before .before .before .before .before .before .before .before .before .before .before .before .before .before .before .before .before .before .before .loop-test .taken) (b .kept .1 .1 .1 .1 .1 .1 .1 .1 .1 .1 .1 .0) (b .kept .1 .1 .1 .1 .1 .1 .1 .1 .1 .1 .1 .1 .0) (c .before .before .found2 .given .1) (c .larger .ensures)
+    let b = c .before .before .before .before .before .before in
+    let k = b .block in
+    search-more _ _ _ _ _ _ _ _ _ (turn b .loop .inv) _ (k .ensures) _ _ _ _ (b .before .before .before .before .before .before .before .before .before .before .before .before .before .before .before .before .before .before .before .loop-test .taken) (k .kept .1 .1 .1 .1 .1 .1 .1 .1 .1 .1 .1 .0) (k .kept .1 .1 .1 .1 .1 .1 .1 .1 .1 .1 .1 .1 .0) (c .before .before .found2 .given .1) (c .larger .ensures)
 
 returns-2 : tie.Need-returns-2 Inv-loop μ-loop
 returns-2 c = search-free _ _ _ _ _ _ _ _ _ (c .before .loop .inv) (c .loop-test .left)
