@@ -82,5 +82,6 @@ pub record BlockIs (n : ℕ) (kinds sizes masks lows places targets firsts : Lis
       → TablesOf b p present (record { kinds = kinds; sizes = sizes; masks = masks; lows = lows; count = n }) (record { places = places; targets = targets; firsts = firsts; states = s }) there
       → BlockDoes b present base r
 
+-- what the blocks of all configurations of so many names give, of whatever sheet the tables are
 pub record Finds (plan : Plan) (clauses : Clauses) (there : Present) (names : ℕ) (r : Outcome) : Type 0 where
   pub finds : (b : List ℕ) (p : Places) (present : ℕ) → TablesOf b p present plan clauses there → names ≡ name-count (class-of b) present → Found b present r

@@ -11,6 +11,7 @@ use Rattle.model.specs.Guards.{concerns, holds}
 use Rattle.configurations.specs.Configurations.{chosen, marked}
 use Rattle.lanes.specs.Lanes.{all-lanes}
 
+-- the child of a class and a name
 abbrev pub child : ℕ → ℕ → Child
 child c n = record { class = c; name = n }
 
@@ -22,6 +23,7 @@ meets m k = not (eqb (bitAnd m k) 0)
 unfoldable pub block-word : ℕ → ℕ → ℕ → ℕ
 block-word m low base = choose (eqb (bitAnd m base) 0) (λ _. low) (λ _. all-lanes)
 
+-- a fact, or its opposite
 abbrev pub agrees : Bool → Bool → Bool
 agrees b true = b
 agrees b false = not b
