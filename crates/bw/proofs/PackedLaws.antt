@@ -6,7 +6,7 @@ use mathlib.Core.Path.{_≡_, sym, _∙_, ap}
 use mathlib.Core.List.{List, [], _∷_}
 use Rattle.model.specs.Refusals.{number-of}
 use Rattle.model.specs.declared.Refusal.{Refusal}
-use Rattle.model.specs.declared.Refusal.the-variants.{SheetLength, Contents, EmptyNameSet, ClauseCounts, GuardLayout, GuardReach, Target, ActionClause, Statement, ChildList, AskedState, AskedCommand, PresentBit, NameCount, Room}
+use Rattle.model.specs.declared.Refusal.the-variants.{SheetLength, Contents, EmptyNameSet, ClauseCounts, GuardLayout, GuardReach, Target, ActionClause, Statement, ChildList, AskedState, AskedCommand, PresentBit, NameCount, Room, Naming, Limit}
 use Rattle.model.specs.declared.OwnState.{OwnState}
 use Rattle.model.specs.Answers.{referrer-as}
 use Rattle.model.specs.declared.Referrer.{Referrer}
@@ -21,7 +21,7 @@ use Rattle.bw.specs.Packed.{Field, side-by-side, fields, word, kinds, pa
 
 -- the largest number of a refusal is 15
 small : (x : Refusal) → number-of x ≤ 15
-small x = elim x [ SheetLength ↦ omega arith | Contents ↦ omega arith | EmptyNameSet ↦ omega arith | ClauseCounts ↦ omega arith | GuardLayout ↦ omega arith | GuardReach ↦ omega arith | Target ↦ omega arith | ActionClause ↦ omega arith | Statement ↦ omega arith | ChildList ↦ omega arith | AskedState ↦ omega arith | AskedCommand ↦ omega arith | PresentBit ↦ omega arith | NameCount ↦ omega arith | Room ↦ omega arith ]
+small x = elim x [ SheetLength ↦ omega arith | Contents ↦ omega arith | EmptyNameSet ↦ omega arith | ClauseCounts ↦ omega arith | GuardLayout ↦ omega arith | GuardReach ↦ omega arith | Target ↦ omega arith | ActionClause ↦ omega arith | Statement ↦ omega arith | ChildList ↦ omega arith | AskedState ↦ omega arith | AskedCommand ↦ omega arith | PresentBit ↦ omega arith | NameCount ↦ omega arith | Room ↦ omega arith | Naming ↦ omega arith | Limit ↦ omega arith ]
 
 -- a refusal is its own word, whatever was asked
 pub word-refused : (ks : List (List Field)) (x : Refusal) (r : ℕ) → r ≡ number-of x → (ns : List ℕ) → ns ≡ number-of x ∷ [] → r ≡ word ks ns

@@ -7,7 +7,7 @@ use mathlib.Core.List.{[], _∷_}
 use Rattle.model.specs.Tree as Tree
 use Rattle.model.specs.Node as Node
 use Rattle.model.specs.Values.{referrer-values, probed-values, settled-values, phase-values}
-use Rattle.model.specs.Answers.{referrer-as, probed-as, ending-as, phase-as, handled-values, looped-values, judge-numbers, probe-numbers, phase-numbers, command-numbers, loop-numbers}
+use Rattle.model.specs.Answers.{referrer-as, probed-as, ending-as, phase-as, handled-values, looped-values, judge-numbers, probe-numbers, phase-numbers, command-numbers, loop-numbers, read-numbers}
 use Rattle.model.specs.declared.OwnState.{OwnState}
 use Rattle.model.specs.declared.Referrer.{Referrer}
 use Rattle.model.specs.declared.Referrer.the-variants.{MoveTo, Do, Stay}
@@ -31,8 +31,10 @@ use Rattle.model.specs.declared.CommandAnswer.{CommandAnswer}
 use Rattle.model.specs.declared.CommandAnswer.the-variants as C
 use Rattle.model.specs.declared.LoopAnswer.{LoopAnswer}
 use Rattle.model.specs.declared.LoopAnswer.the-variants as L
+use Rattle.model.specs.declared.ReadAnswer.{ReadAnswer}
+use Rattle.model.specs.declared.ReadAnswer.the-variants as R
 use Rattle.model.proofs.Words.{clash}
-use Rattle.model.proofs.RefusalLaws.{same-number, not-zero}
+use Rattle.model.proofs.RefusalLaws.{same-number, not-zero, not-sixteen}
 
 -- own states of one number are one
 pub same-state : (s t : OwnState) → s .0 ≡ t .0 → s ≡ t
@@ -160,3 +162,14 @@ same-loop (L.Refused x) (L.Refused y) e = ap L.Refused (same-number x y (cc))
 same-loop (L.Refused x) (L.Given s) e = absurd (not-zero x (cc))
 same-loop (L.Given r) (L.Refused y) e = absurd (not-zero y (cc))
 same-loop (L.Given r) (L.Given s) e = ap L.Given (looped-told r s (cc))
+
+pub same-read : (r s : ReadAnswer) → read-numbers r ≡ read-numbers s → r ≡ s
+same-read (R.Refused x) (R.Refused y) e = ap R.Refused (same-number x y (cc))
+same-read (R.Refused x) (R.WrongWord q) e = absurd (not-sixteen x (cc))
+same-read (R.Refused x) (R.Read l n) e = absurd (not-zero x (cc))
+same-read (R.WrongWord p) (R.Refused y) e = absurd (not-sixteen y (cc))
+same-read (R.WrongWord p) (R.WrongWord q) e = ap R.WrongWord (cc)
+same-read (R.WrongWord p) (R.Read l n) e = absurd (clash (cc))
+same-read (R.Read k m) (R.Refused y) e = absurd (not-zero y (cc))
+same-read (R.Read k m) (R.WrongWord q) e = absurd (clash (cc))
+same-read (R.Read k m) (R.Read l n) e = let f : k ≡ l = cc in let g : m ≡ n = cc in λ i. R.Read (f i) (g i)

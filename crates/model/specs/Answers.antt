@@ -28,6 +28,8 @@ use Rattle.model.specs.declared.CommandAnswer.{CommandAnswer}
 use Rattle.model.specs.declared.CommandAnswer.the-variants as C
 use Rattle.model.specs.declared.LoopAnswer.{LoopAnswer}
 use Rattle.model.specs.declared.LoopAnswer.the-variants as L
+use Rattle.model.specs.declared.ReadAnswer.{ReadAnswer}
+use Rattle.model.specs.declared.ReadAnswer.the-variants as R
 
 -- what a probe and a when phase give, as the tree has it
 abbrev pub referrer-as : Referrer → Tree.Referrer
@@ -78,3 +80,9 @@ command-numbers (C.Given h) = 0 ∷ handled-values h
 abbrev pub loop-numbers : LoopAnswer → List ℕ
 loop-numbers (L.Refused x) = number-of x ∷ []
 loop-numbers (L.Given l) = 0 ∷ looped-values l
+
+-- 16 and its place; 0, the length of the sheet and the number of own states
+abbrev pub read-numbers : ReadAnswer → List ℕ
+read-numbers (R.Refused x) = number-of x ∷ []
+read-numbers (R.WrongWord at) = 16 ∷ at ∷ []
+read-numbers (R.Read length states) = 0 ∷ length ∷ states ∷ []

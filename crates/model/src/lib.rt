@@ -12,7 +12,7 @@ pub struct ChildName(pub u8);
 // One of the sheet's child classes, 0 to K - 1.
 pub struct ChildClass(pub u8);
 
-// Why an input is refused: a case for each number of the paper's table, in its order.
+// Why an input is refused: a case for each number of the paper's table, in its order. 16, which has a place, is a case of ReadAnswer.
 pub enum Refusal {
     SheetLength,
     Contents,
@@ -29,6 +29,8 @@ pub enum Refusal {
     PresentBit,
     NameCount,
     Room,
+    Naming,
+    Limit,
 }
 
 // A when clause's referrer with its target: an own state, an action clause's number within the state, none.
@@ -95,6 +97,14 @@ pub enum LoopAnswer {
     Given(Loops),
 }
 
+// The answer to a class text: refused; the start of the first word that cannot stand; or read, the length of the sheet and the number of
+// own states.
+pub enum ReadAnswer {
+    Refused(Refusal),
+    WrongWord(usize),
+    Read(usize, usize),
+}
+
 // The number of a refusal in the paper's table.
 pub fn refusal_number(x: Refusal) -> u64
     ensures { λ r. ⌜ r ≡ number-of x ⌝ }
@@ -115,5 +125,7 @@ pub fn refusal_number(x: Refusal) -> u64
         Refusal::PresentBit => 13,
         Refusal::NameCount => 14,
         Refusal::Room => 15,
+        Refusal::Naming => 17,
+        Refusal::Limit => 18,
     }
 }
