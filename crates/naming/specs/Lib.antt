@@ -1,0 +1,3 @@
+pub mod NameLists
+pub mod Naming
+pub mod Known

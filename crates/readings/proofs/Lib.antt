@@ -1,0 +1,4 @@
+pub mod Examples
+pub mod RowLaws
+pub mod ReadLaws
+pub mod WaysOut

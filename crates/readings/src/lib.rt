@@ -1,0 +1,1 @@
+// The answer to a class text that is to be read. Definitions and theorems alone.
