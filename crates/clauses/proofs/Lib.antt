@@ -1,0 +1,5 @@
+pub mod Turns
+pub mod Fitting
+pub mod StateLaws
+pub mod ActionLaws
+pub mod Writes

@@ -1,0 +1,25 @@
+use Rattle.laying.proofs.LayingLaws.{entry-all, puts-length}
+use Prim.Native.Nat.{ℕ, _+_, _-_, _<_, _≤_}
+use native.Mathlib.Omega.{arith}
+use mathlib.Core.Path.{_≡_, refl, sym, _∙_, ap}
+use borrow.Author.Needs.{needs}
+use Rattle.laying.proofs.put_entry.Statement.{statement}
+use Rattle.laying.proofs.put_entry.Tie as tie
+use Rattle.laying.proofs.put_entry.Reads as reads
+use Rattle.laying.proofs.put_entry.Lts as lts
+use Rattle.pen.proofs.put_two.Reads as put-two-reads
+
+put-two-requires : tie.Need-put-two-requires
+put-two-requires c κs = search needs
+
+put-two-requires-2 : tie.Need-put-two-requires-2
+put-two-requires-2 c κs = search needs
+
+same-length : tie.Need-same-length
+same-length c = search needs
+
+returns : tie.Need-returns
+returns c = entry-all _ _ _ _ _ _ _ _ (c .before .before .before .before .before .before .put-two .ensures) (c .before .before .put-two2 .ensures)
+
+pub put-entry-spec : {M : Type 1} → statement M
+put-entry-spec = tie.close (tie.spec put-two-requires put-two-requires-2 same-length returns)

@@ -1,0 +1,2 @@
+pub mod ShallowLaws
+pub mod CountLaws

@@ -1,0 +1,15 @@
+-- `prefixed::atoms::with_name` meets its contract.
+-- Assumes nothing.
+use borrow.Author.Needs.{needs}
+use Rattle.prefixed.proofs.AtomSteps.{name-past, name-marked}
+use Rattle.prefixed.proofs.atoms.with_name.Statement.{statement}
+use Rattle.prefixed.proofs.atoms.with_name.Tie as tie
+
+returns : tie.Need-returns
+returns c = name-past _ _ _ _ (c .before .number .ensures) (c .if1 .taken)
+
+returns-2 : tie.Need-returns-2
+returns-2 c = name-marked _ _ _ _ (c .before .number .ensures) (search needs) (c .if1 .left)
+
+pub with-name-spec : {M : Type 1} → statement M
+with-name-spec = tie.close (tie.spec (λ c κs. search needs) returns (λ c. search needs) (λ c. search needs) returns-2)

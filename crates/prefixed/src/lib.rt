@@ -1,0 +1,5 @@
+// The guard records of a text, put in the sheet's order on one walk over its words: no stack and no recursion, however many brackets stand
+// round a guard. What the walk does is in specs/Ordering.antt, that it is right in proofs/.
+pub mod atoms;
+pub mod inserts;
+pub mod marks;

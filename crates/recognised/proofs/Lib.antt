@@ -1,0 +1,3 @@
+pub mod Watches
+pub mod Walks
+pub mod Unique

@@ -1,0 +1,16 @@
+use borrow.Author.Needs.{needs}
+use Rattle.recognised.proofs.Watches.{had-other, had-none, had-watched}
+use Rattle.recognised.proofs.had_else.Statement.{statement}
+use Rattle.recognised.proofs.had_else.Tie as tie
+
+returns : tie.Need-returns
+returns c = had-other _ _ _ _ _ (c .if1 .taken)
+
+returns-2 : tie.Need-returns-2
+returns-2 c = had-none _ _ _ _ _ (c .if2 .taken)
+
+returns-3 : tie.Need-returns-3
+returns-3 c = had-watched _ _ _ _ _ _ (c .before .if2 .left) (c .watch .ensures)
+
+pub had-else-spec : {M : Type 1} → statement M
+had-else-spec = tie.close (tie.spec returns returns-2 (λ c κs. search needs) returns-3)

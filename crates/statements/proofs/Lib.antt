@@ -1,0 +1,5 @@
+pub mod PartLaws
+pub mod StatementLaws
+pub mod LookingLaws
+pub mod PuttingLaws
+pub mod WritingLaws

@@ -1,0 +1,15 @@
+-- By the kind.
+-- Assumes nothing.
+use Rattle.statements.proofs.LookingLaws.{count-more, count-same}
+use borrow.Author.Needs.{needs}
+use Rattle.statements.proofs.count_after.Statement.{statement}
+use Rattle.statements.proofs.count_after.Tie as tie
+
+returns : tie.Need-returns
+returns c = count-more _ _ (c .if1 .taken)
+
+returns-2 : tie.Need-returns-2
+returns-2 c = count-same _ _ (c .if1 .left)
+
+pub count-after-spec : {M : Type 1} → statement M
+count-after-spec = tie.close (tie.spec (λ c. search needs) returns returns-2)

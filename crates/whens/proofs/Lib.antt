@@ -1,0 +1,4 @@
+pub mod Passing
+pub mod WhenLaws
+pub mod AheadLaws
+pub mod WritingLaws
