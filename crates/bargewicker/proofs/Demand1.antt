@@ -64,7 +64,7 @@ module _ (q : Question) (r : AnswerTo q) (final : List ℕ) (h : Promised q r fi
   refuses x e = is-refused (reply q) x (failed q ∙ e)
 
   refused-if : (x : Refusal) → first-failed (table q) ≡ number-of x → r ≡ refusing q x
-  refused-if x e = unique q r (refusing q x) final (lent q) h (refused-so q x (refuses x e) (lent q) refl) .0
+  refused-if x e = unique .sheets q r (refusing q x) final (lent q) h (refused-so q x (refuses x e) (lent q) refl) .0
 
   pub demand-1 : Demand1 q r final
   demand-1 =
@@ -79,5 +79,5 @@ pub accepted-exactly : (b : List ℕ) (r : JudgeAnswer) (final : List ℕ) → P
 unfolding table
 accepted-exactly b r final h = (
   (λ e. sheet-failed b ∙ demand-1 (judge b) r final h .answered .0 (λ x f. absurd (clash (cc (sym e ∙ f))))),
-  λ a. unique (judge b) r J.Accepted final [] h (accepted-so b a) .0,
+  λ a. unique .sheets (judge b) r J.Accepted final [] h (accepted-so b a) .0,
 )

@@ -152,7 +152,7 @@ module _ (b l : List ℕ) (q : ℕ) (a : Asked b l q) where
     told-command : (s : CommandAnswer) (after : List ℕ) → HandledSo (command c ks q m) out after s
         → (final ≡ after → CommandRight c ks q m out final s) → CommandRight c ks q m out final r
     told-command s after g f =
-        let (e, k) = unique (command-in b l q m out) r s final after h (commanded-so b l q fits m out small s after g) in
+        let (e, k) = unique .sheets (command-in b l q m out) r s final after h (commanded-so b l q fits m out small s after g) in
         subst (CommandRight c ks q m out final) (sym e) (f k)
 
     pub command-right : CommandRight c ks q m out final r

@@ -39,14 +39,14 @@ module _ (b : List ℕ) (present : ℕ) (out : List ℕ) (asked-so : AskedLoop b
     where
       go : (a : Loops) → loop-answer (class-of b) present ≡ a → Demanded (class-of b) present a → Demand3 (class-of b) present out final r
       go (free m) e D =
-          let (f, g) = unique (loop-with b present out) r (L.Given (Free m)) final out h (answered values (reply (loop-with b present out)) (give (looped (free m)) []) (given-reply (free m) e) out out refl) in
+          let (f, g) = unique .sheets (loop-with b present out) r (L.Given (Free m)) final out h (answered values (reply (loop-with b present out)) (give (looped (free m)) []) (given-reply (free m) e) out out refl) in
           record {
             free-exactly-if = ((λ _. D .free-exactly-if .0 refl), λ _. (m, f));
             right = subst (LoopsRight (class-of b) present out final) (sym f) (D .right, g);
           }
       go (loop k q ks) e D =
           let after : List ℕ = written (pairs ks) out in
-          let (f, g) = unique (loop-with b present out) r (L.Given (Loop k (record { 0 = q }))) final after h (answered values (reply (loop-with b present out)) (give (looped (loop k q ks)) (pairs ks)) (given-reply (loop k q ks) e) out after refl) in
+          let (f, g) = unique .sheets (loop-with b present out) r (L.Given (Loop k (record { 0 = q }))) final after h (answered values (reply (loop-with b present out)) (give (looped (loop k q ks)) (pairs ks)) (given-reply (loop k q ks) e) out after refl) in
           record {
             free-exactly-if = ((λ (m, z). absurd (clash (cc (sym f ∙ z)))), λ all. absurd (clash (cc (D .free-exactly-if .1 all))));
             right = subst (LoopsRight (class-of b) present out final) (sym f) (ks, D .right, g);

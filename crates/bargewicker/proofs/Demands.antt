@@ -1,5 +1,9 @@
 -- Demands 1, 2 and 3 hold of whatever meets the promises of the face.
 -- Assumes nothing.
+use mathlib.Core.Path.{refl}
+use Rattle.model.specs.declared.ReadAnswer.the-variants as R
+use Rattle.readings.proofs.ReadLaws.{reads}
+use Rattle.readings.specs.Promise.{came}
 use Rattle.bargewicker.specs.Demands.{Demands}
 use Rattle.bargewicker.proofs.Demand1.{demand-1, accepted-exactly}
 use Rattle.bargewicker.proofs.Demand2.{probe-right, phase-right, command-right, moves-first}
@@ -10,6 +14,8 @@ demands =
     record {
       demand1 = demand-1;
       accepted = accepted-exactly;
+      reading = λ q r sheet table a. reads .rows q (came r sheet table) a;
+      read = λ q length states sheet table b a. reads .right q (came (R.Read length states) sheet table) b a length states refl;
       probing = probe-right;
       phasing = phase-right;
       commanding = λ b l q m out a small. command-right b l q a m out small;

@@ -39,6 +39,12 @@ use Rattle.children.specs.ChildList.{children-of, list-right, pairs, sent-bytes
 use Rattle.configurations.specs.Configurations.{name-count}
 use Rattle.configurations.specs.Demand.{AllEnd, FreeRight, LoopRight}
 use Rattle.loops.specs.LoopQuestion.{present-right}
+use Rattle.model.specs.declared.ReadAnswer.{ReadAnswer}
+use Rattle.model.specs.declared.ReadAnswer.the-variants as R
+use Rattle.grammar.specs.Grammar.{Text}
+use Rattle.readings.specs.Readings.{Lent}
+use Rattle.readings.specs.Reads.{Rows, ReadRight}
+use Rattle.readings.specs.Promise.{came, Answered}
 use Rattle.bargewicker.specs.Questions.{Question, judge, probe-in, phase-from, command-in, loop-with, lent}
 use Rattle.bargewicker.specs.Promises.{AnswerTo, refusing, Promised}
 use Rattle.bargewicker.specs.Table.{table, first-failed}
@@ -146,12 +152,17 @@ pub record AskedLoop (b : List ℕ) (present : ℕ) (out : List ℕ) : Type 0 wh
   pub room : 2 * name-count (class-of b) present ≤ length out
 
 -- THE DEMANDS, of any answer r and any content `final` of the lent buffer after the call that meet the promise
-pub record Demands : Type 0 where
+pub record Demands : Type 1 where
   -- 1: every byte string offered as a class sheet, child list or request; "accepted" is said exactly of the sheets
   -- that the others speak of
   pub demand1 : (q : Question) (r : AnswerTo q) (final : List ℕ) → Promised q r final → Demand1 q r final
   pub accepted : (b : List ℕ) (r : JudgeAnswer) (final : List ℕ) → Promised (judge b) r final
       → (r ≡ J.Accepted) ↔ Accepted b
+  -- and every byte string offered as a class text or a list of names: each refusal exactly when its row says so, and it
+  -- writes nothing; what is read is a sheet that is accepted, and all that the others say of it is said of the text's class
+  pub reading : (q : Lent) (r : ReadAnswer) (sheet table : List ℕ) → Answered q r sheet table → Rows q (came r sheet table)
+  pub read : (q : Lent) (length states : ℕ) (sheet table : List ℕ) → Bytes (q .lists .classes) → Answered q (R.Read length states) sheet table
+      → (t : Text) × ReadRight q (came (R.Read length states) sheet table) length states t
   -- 2: probing, the when phase and the handling of a command, for every accepted sheet, state, child list and command
   pub probing : (b l : List ℕ) (q : ℕ) → Asked b l q → (r : ProbeAnswer) (final : List ℕ)
       → Promised (probe-in b l q) r final → ProbeRight (class-of b) (children-of l) q r
