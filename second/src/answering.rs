@@ -1,9 +1,11 @@
-//! The answer line to a question line, with the refusals that belong to the questions (10 to 15).
+//! The answer line to a question line, with the refusals that belong to the questions (10 to 18).
 
 use crate::behaviour::{command, phase, probe, Child, Ending, Phase};
 use crate::judging::judge;
 use crate::lines::{hex, Question};
+use crate::lists::NAME_RECORD;
 use crate::loops::{ask, pairs, Answer};
+use crate::reading::{read, Lent};
 use crate::tree::{Class, Referrer};
 
 const MOST_CHILDREN: usize = 4096;
@@ -25,6 +27,7 @@ fn answer(question: &Question) -> String {
         Question::Phase { sheet, list, state } => answer_phase(sheet, list, *state),
         Question::Command { sheet, list, state, command, buffer } => answer_command(sheet, list, *state, *command, buffer),
         Question::Loop { sheet, present, buffer } => answer_loop(sheet, *present, buffer),
+        Question::Read(lent) => Ok(answer_read(lent)),
     };
     let lent = match question {
         Question::Command { buffer, .. } | Question::Loop { buffer, .. } => format!(" {}", hex(buffer)),
@@ -117,4 +120,19 @@ fn answer_loop(sheet: &[u8], present: u8, buffer: &[u8]) -> Result<String, u8> {
             format!("loop {configuration} {state} {}", hex(&written(buffer, &list)?))
         }
     })
+}
+
+/// The reading question's answer; a refusal tells both buffers as they were.
+fn answer_read(lent: &Lent) -> String {
+    let done = read(lent).and_then(|read| {
+        let sheet = written(&lent.sheet, &read.sheet)?;
+        Ok((read.sheet.len(), read.table.len() / NAME_RECORD, sheet, written(&lent.table, &read.table)?))
+    });
+    match done {
+        Ok((length, states, sheet, table)) => format!("read {length} {states} {} {}", hex(&sheet), hex(&table)),
+        Err(refusal) => {
+            let place = refusal.place.map_or(String::new(), |place| format!(" {place}"));
+            format!("refused {}{place} {} {}", refusal.number, hex(&lent.sheet), hex(&lent.table))
+        }
+    }
 }

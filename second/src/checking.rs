@@ -3,9 +3,12 @@
 use crate::answering::answer_line;
 use std::collections::BTreeMap;
 
-/// Every refusal number must be hit this often, in a run of this many questions or more.
+/// Every refusal number must be hit this often: 1 to 15 in a run of so many questions, at least half of them about sheets; 15 to 18 of
+/// reading questions where so many of those were compared.
 const FLOOR: usize = 50;
 const FULL_RUN: usize = 20_000;
+const FULL_READING: usize = 5_000;
+const LAST_NUMBER: usize = 18;
 
 /// How many differences are printed, and how much of a line.
 const SHOWN: usize = 5;
@@ -16,7 +19,8 @@ const SHOWN_BYTES: usize = 600;
 struct Tally {
     questions: BTreeMap<String, usize>,
     answers: BTreeMap<String, usize>,
-    refusals: [usize; 16],
+    refusals: [usize; LAST_NUMBER + 1],
+    reading_refusals: [usize; LAST_NUMBER + 1],
     differ: usize,
 }
 
@@ -38,7 +42,7 @@ fn shown(line: &[u8]) -> String {
 /// The kind of a question line.
 fn question_kind(line: &[u8]) -> String {
     let word = line.split(|byte| *byte == b' ').next().unwrap_or(&[]);
-    let known = ["judge", "probe", "phase", "command", "loop"];
+    let known = ["judge", "probe", "phase", "command", "loop", "read"];
     known.iter().find(|kind| kind.as_bytes() == word).map_or("other".to_string(), |kind| kind.to_string())
 }
 
@@ -63,7 +67,8 @@ impl Tally {
         *self.answers.entry(answer_kind(&kind, answer)).or_default() += 1;
         if let Some(rest) = answer.strip_prefix("refused ") {
             let number = rest.split(' ').next().and_then(|word| word.parse().ok()).unwrap_or(0);
-            self.refusals[number] += 1;
+            let refusals = if kind == "read" { &mut self.reading_refusals } else { &mut self.refusals };
+            refusals[number] += 1;
         }
         *self.questions.entry(kind).or_default() += 1;
     }
@@ -90,14 +95,30 @@ impl Tally {
             }
         }
         println!("refusal numbers");
-        for (number, count) in self.refusals.iter().enumerate().skip(1) {
-            println!("  {number:<34}{count:>8}");
+        for number in 1..=15 {
+            println!("  {number:<34}{:>8}", self.refusals[number]);
+        }
+        for number in (15..=LAST_NUMBER).filter(|_| self.sizes().1 > 0) {
+            println!("  {number:<2} of reading questions{:>19}", self.reading_refusals[number]);
         }
     }
 
-    /// The refusal numbers that were hit too seldom.
+    /// How many questions of all kinds were counted, and how many of them were reading questions.
+    fn sizes(&self) -> (usize, usize) {
+        (self.questions.values().sum(), self.questions.get("read").copied().unwrap_or(0))
+    }
+
+    /// Is something asked of the refusal numbers 1 to 15, and of those of reading questions?
+    fn full(&self) -> (bool, bool) {
+        let (all, reading) = self.sizes();
+        (all >= FULL_RUN && all - reading >= FULL_RUN / 2, reading >= FULL_READING)
+    }
+
+    /// The refusal numbers that were hit too seldom, of those that something is asked of.
     fn seldom(&self) -> Vec<usize> {
-        (1..16).filter(|number| self.refusals[*number] < FLOOR).collect()
+        let (sheets, reading) = self.full();
+        let few = (1..16).filter(|number| sheets && self.refusals[*number] < FLOOR);
+        few.chain((15..=LAST_NUMBER).filter(|number| reading && self.reading_refusals[*number] < FLOOR)).collect()
     }
 }
 
@@ -114,9 +135,10 @@ pub fn check(questions: &[u8], answers: &[u8]) -> bool {
         println!("second: {} questions, but {} answers", questions.len(), answers.len());
         good = false;
     }
-    if questions.len() < FULL_RUN {
+    if tally.full() == (false, false) {
         println!("second: fewer than {FULL_RUN} questions, so nothing is asked of the refusal numbers");
-    } else if !tally.seldom().is_empty() {
+    }
+    if !tally.seldom().is_empty() {
         println!("second: hit fewer than {FLOOR} times: refusal numbers {:?}", tally.seldom());
         good = false;
     }

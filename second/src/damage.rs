@@ -4,7 +4,7 @@ use crate::limits::{counted, Counts};
 use crate::random::Random;
 use crate::shapes::atom;
 use crate::tree::{Class, Names};
-use crate::writing::{atom_record, Bodies, ACTIONS, CLASSES, GUARDS, STATEMENTS, STATES, WHENS};
+use crate::writing::{atom_record, Bodies, ACTIONS, ACTION_COUNT, CLASSES, GUARDS, STATEMENTS, STATES, WHENS, WHEN_COUNT};
 
 /// Damages the records of a sheet so that it breaks rule 3, 4, 5, 6, 7, 8 or 9. Every body must have a record.
 pub fn damage_records(random: &mut Random, rule: u8, class: &Class, bodies: &mut Bodies) {
@@ -31,12 +31,12 @@ fn damage_3(random: &mut Random, bodies: &mut Bodies) {
 
 /// Makes the counts of the states sum to something else.
 fn damage_4(random: &mut Random, bodies: &mut Bodies) {
-    let offset = random.pick(&[0, 2]);
+    let offset = random.pick(&[WHEN_COUNT, ACTION_COUNT]);
     if random.chance(30) {
         // two more counts, which come to 65,536 together: nothing, to one who keeps 16 bits
         let first = random.pick(&[32_768u16, 65_535, 1, 40_000]);
         for value in [first, first.wrapping_neg()] {
-            bodies.push(STATES, &[0; 4]);
+            bodies.push_state(0, 0);
             let at = bodies.count(STATES) - 1;
             bodies.set_number(STATES, at, offset, value);
         }
@@ -114,9 +114,9 @@ fn too_deep(random: &mut Random, children: &[Names], bodies: &mut Bodies, depth:
 fn actions_of_clause(bodies: &mut Bodies, clause: usize) -> u8 {
     let mut before = 0;
     for at in 0..bodies.count(STATES) {
-        before += usize::from(bodies.number(STATES, at, 0));
+        before += usize::from(bodies.number(STATES, at, WHEN_COUNT));
         if clause < before {
-            return bodies.number(STATES, at, 2) as u8;
+            return bodies.number(STATES, at, ACTION_COUNT) as u8;
         }
     }
     0
@@ -151,7 +151,7 @@ fn damage_8(random: &mut Random, bodies: &mut Bodies) {
         _ => {
             // two clauses more, whose counts come to 65,536 together
             let first = random.pick(&[32_768u16, 65_535, 1, 40_000]);
-            bodies.push(STATES, &[0, 0, 2, 0]);
+            bodies.push_state(0, 2);
             for (command, value) in [(5, first), (6, first.wrapping_neg())] {
                 let [low, high] = value.to_le_bytes();
                 bodies.push(ACTIONS, &[command, 0, low, high]);
@@ -164,7 +164,7 @@ fn damage_8(random: &mut Random, bodies: &mut Bodies) {
 fn repeat_command(random: &mut Random, bodies: &mut Bodies) {
     let command = random.byte(0, 63);
     let between: Vec<u8> = (0..64).filter(|other| *other != command).take(random.below(3)).collect();
-    bodies.push(STATES, &[0, 0, between.len() as u8 + 2, 0]);
+    bodies.push_state(0, between.len() + 2);
     bodies.push(ACTIONS, &[command, 0, 0, 0]);
     for other in between {
         bodies.push(ACTIONS, &[other, 0, 0, 0]);
@@ -200,7 +200,7 @@ fn add_clause(random: &mut Random, bodies: &mut Bodies, mut records: Vec<[u8; 8]
     if random.chance(50) {
         records.push(good_statement(random, bodies.count(STATES) as u8));
     }
-    bodies.push(STATES, &[0, 0, 1, 0]);
+    bodies.push_state(0, 1);
     bodies.push(ACTIONS, &[random.byte(0, 63), 0, records.len() as u8, 0]);
     for record in &records {
         bodies.push(STATEMENTS, record);
@@ -209,7 +209,7 @@ fn add_clause(random: &mut Random, bodies: &mut Bodies, mut records: Vec<[u8; 8]
 
 /// Adds two action clauses; the if that the first one ends with has its part in the second.
 fn crossing(random: &mut Random, bodies: &mut Bodies) {
-    bodies.push(STATES, &[0, 0, 2, 0]);
+    bodies.push_state(0, 2);
     bodies.push(ACTIONS, &[1, 0, 1, 0]);
     bodies.push(ACTIONS, &[2, 0, 1, 0]);
     let lengths = if random.chance(50) { [1, 0] } else { [0, 1] };
@@ -285,7 +285,9 @@ fn too_many_ifs(random: &mut Random) -> Vec<[u8; 8]> {
 
 /// Moves a part of a count to another record, or to the other part of an if; the sums stay. The sheet may still be good.
 pub fn shift_counts(random: &mut Random, bodies: &mut Bodies) {
-    let (body, offsets) = random.pick(&[(STATES, [0, 0]), (STATES, [2, 2]), (ACTIONS, [2, 2]), (STATEMENTS, [4, 6]), (STATEMENTS, [6, 4])]);
+    let of_states = [(STATES, [WHEN_COUNT; 2]), (STATES, [ACTION_COUNT; 2])];
+    let others = [(ACTIONS, [2, 2]), (STATEMENTS, [4, 6]), (STATEMENTS, [6, 4])];
+    let (body, offsets) = random.pick(&[&of_states[..], &others[..]].concat());
     let branches: Vec<usize> = (0..bodies.count(STATEMENTS)).filter(|at| bodies.0[STATEMENTS][at * 8] == 2).collect();
     let (from, to) = match body {
         STATEMENTS if branches.is_empty() => return,

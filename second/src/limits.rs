@@ -208,8 +208,7 @@ pub fn counted(random: &mut Random, counts: Counts) -> Bodies {
     let whens = share_out(random, counts.whens, counts.states, usize::MAX);
     let actions = share_out(random, counts.actions, counts.states, 64);
     for (whens, actions) in whens.into_iter().zip(actions) {
-        let ([a, b], [c, d]) = ((whens as u16).to_le_bytes(), (actions as u16).to_le_bytes());
-        bodies.push(STATES, &[a, b, c, d]);
+        bodies.push_state(whens, actions);
         for _ in 0..whens {
             let [low, high] = random.pick(&places).to_le_bytes();
             let (referrer, target) = when_target(random, counts.states, actions);

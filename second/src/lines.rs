@@ -1,8 +1,10 @@
 //! Question lines: one question in words, bytes as hex, numbers in decimal.
 
+use crate::reading::Lent;
+
 pub const LONGEST_LINE: usize = 262_144;
 
-/// One of the five questions, with what it is asked about.
+/// One of the six questions, with what it is asked about.
 #[derive(Clone, Debug, PartialEq)]
 pub enum Question {
     Judge { sheet: Vec<u8> },
@@ -10,6 +12,7 @@ pub enum Question {
     Phase { sheet: Vec<u8>, list: Vec<u8>, state: u8 },
     Command { sheet: Vec<u8>, list: Vec<u8>, state: u8, command: u8, buffer: Vec<u8> },
     Loop { sheet: Vec<u8>, present: u8, buffer: Vec<u8> },
+    Read(Lent),
 }
 
 /// Bytes as lower-case hex; none at all as a hyphen.
@@ -59,6 +62,10 @@ impl Question {
                 format!("command {} {} {state} {command} {}", hex(sheet), hex(list), hex(buffer))
             }
             Question::Loop { sheet, present, buffer } => format!("loop {} {present} {}", hex(sheet), hex(buffer)),
+            Question::Read(lent) => {
+                let fields = [&lent.text, &lent.names, &lent.commands, &lent.classes, &lent.sheet, &lent.table];
+                format!("read {}", fields.map(|bytes| hex(bytes)).join(" "))
+            }
         }
     }
 
@@ -78,6 +85,10 @@ impl Question {
                 Some(Question::Command { sheet, list: unhex(list)?, state, command, buffer: unhex(buffer)? })
             }
             (b"loop", [present, buffer]) => Some(Question::Loop { sheet, present: decimal(present)?, buffer: unhex(buffer)? }),
+            (b"read", [names, commands, classes, buffer, table]) => {
+                let (names, commands, classes) = (unhex(names)?, unhex(commands)?, unhex(classes)?);
+                Some(Question::Read(Lent { text: sheet, names, commands, classes, sheet: unhex(buffer)?, table: unhex(table)? }))
+            }
             _ => None,
         }
     }

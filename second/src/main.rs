@@ -1,34 +1,52 @@
-//! The second program: random questions about class sheets, and their answers, from the rules alone.
+//! The second program: random questions about class sheets and class texts, and their answers, from the rules alone.
 
 mod answering;
 mod asking;
 mod behaviour;
+mod chart;
 mod checking;
 mod damage;
+mod drafts;
+mod grammar;
 mod judging;
 mod limits;
 mod lines;
+mod lists;
 mod loops;
+mod long_texts;
 mod making;
+mod making_texts;
+mod name_damage;
+mod naming;
+mod printing;
 mod random;
+mod reading;
 mod shapes;
 #[cfg(test)]
 mod tests;
+mod text;
+mod text_damage;
+mod text_limits;
+#[cfg(test)]
+mod text_tests;
 mod tree;
+mod words;
 mod writing;
 
 use std::io::{BufRead, BufWriter, Error, Write};
 use std::process::ExitCode;
 
 const USAGE: &str = "usage: second make SEED COUNT            writes question lines
+       second make-texts SEED COUNT      writes lines of reading questions alone
        second answer                     reads question lines, writes the answers
        second check QUESTIONS ANSWERS    compares the answers in a file with its own";
 
-/// Writes the questions of a run.
-fn make(seed: u64, count: u64) -> Result<ExitCode, Error> {
+/// Writes the questions of a run, each made from the seed and its number.
+fn make(one: fn(u64, u64) -> Vec<u8>, seed: &str, count: &str) -> Result<ExitCode, Error> {
+    let (Ok(seed), Ok(count)) = (seed.parse(), count.parse()) else { return Err(Error::other("SEED and COUNT are numbers")) };
     let mut out = BufWriter::new(std::io::stdout().lock());
     for index in 0..count {
-        let mut line = making::make_line(seed, index);
+        let mut line = one(seed, index);
         line.push(b'\n');
         out.write_all(&line)?;
     }
@@ -57,10 +75,8 @@ fn main() -> ExitCode {
     let words: Vec<String> = std::env::args().skip(1).collect();
     let words: Vec<&str> = words.iter().map(String::as_str).collect();
     let done = match words[..] {
-        ["make", seed, count] => match (seed.parse(), count.parse()) {
-            (Ok(seed), Ok(count)) => make(seed, count),
-            _ => Err(Error::other("SEED and COUNT are numbers")),
-        },
+        ["make", seed, count] => make(making::make_line, seed, count),
+        ["make-texts", seed, count] => make(making_texts::make_line, seed, count),
         ["answer"] => answer(),
         ["check", questions, answers] => check(questions, answers),
         _ => Err(Error::other(USAGE)),

@@ -5,11 +5,19 @@ use crate::behaviour::{command, phase, Child, Phase};
 use crate::damage::{damage_contents, damage_length, damage_records, shift_counts};
 use crate::judging::judge;
 use crate::limits::{guards_of_depth, ifs_of_depth, large, many_names, pinned, shared};
-use crate::lines::{Question, LONGEST_LINE};
+use crate::lines::Question;
+use crate::making_texts;
 use crate::random::Random;
 use crate::shapes::{class, Shape, Style, BUSY, CROWD, LADDER, RING, ROUND, SMALL, TALL, WHOLE};
 use crate::tree::{Class, Names};
 use crate::writing::bodies_of;
+
+/// A line of so many bytes was once the longest; lines about as long must still be taken.
+const FORMER_LONGEST_LINE: usize = 262_144;
+
+/// So many of each hundred questions, those that take long left out, are reading questions.
+const READING_IN_A_HUNDRED: usize = 0;
+const READING_SEED: u64 = 0x4EAD_1000_0000_0000;
 
 /// Every so many questions comes one that takes long to answer or to send.
 const HEAVY_EVERY: u64 = 500;
@@ -19,6 +27,9 @@ pub fn make_line(seed: u64, index: u64) -> Vec<u8> {
     let random = &mut Random::for_question(seed, index);
     if index % HEAVY_EVERY == HEAVY_EVERY / 2 {
         return heavy(random, index / HEAVY_EVERY).line().into_bytes();
+    }
+    if Random::for_question(seed ^ READING_SEED, index).chance(READING_IN_A_HUNDRED) {
+        return making_texts::make_line(seed, index);
     }
     let question = match random.below(200) {
         0..=69 => accepted(random),
@@ -260,13 +271,13 @@ fn early_loop(random: &mut Random, total: usize) -> Question {
     }
 }
 
-/// A loop question on a line that is this much longer than a line may be.
+/// A loop question on a line that is this much longer than a line might once be.
 fn brimful(random: &mut Random, excess: usize) -> Question {
     let class = class(random, &RING);
     let sheet = bodies_of(&class, true).sheet();
     let present = if excess % 2 == 0 { 1 } else { 10 };
     let bare = Question::Loop { sheet: sheet.clone(), present, buffer: vec![0] }.line().len() - 2;
-    let buffer = random.bytes((LONGEST_LINE + excess - bare) / 2);
+    let buffer = random.bytes((FORMER_LONGEST_LINE + excess - bare) / 2);
     Question::Loop { sheet, present, buffer }
 }
 
@@ -296,7 +307,12 @@ fn long_command(random: &mut Random, sheet: Vec<u8>, class: &Class, list: Vec<u8
 fn bad_line(random: &mut Random) -> Vec<u8> {
     let class = class(random, &WHOLE);
     let sheet = bodies_of(&class, true).sheet();
-    let mut line = good(random, sheet, &class).line().into_bytes();
+    let line = good(random, sheet, &class).line().into_bytes();
+    spoil_line(random, line)
+}
+
+/// Spoils a line in one of the ways in which a line is no question.
+pub fn spoil_line(random: &mut Random, mut line: Vec<u8>) -> Vec<u8> {
     let last = line.len() - 1;
     match random.below(12) {
         0 => line.clear(),

@@ -12,6 +12,10 @@ pub const GUARDS: usize = 3;
 pub const ACTIONS: usize = 4;
 pub const STATEMENTS: usize = 5;
 
+/// Where a state record has the numbers of its clauses; `push_state` alone knows the rest of its form.
+pub const WHEN_COUNT: usize = 0;
+pub const ACTION_COUNT: usize = 2;
+
 /// The six bodies of a sheet before their contents are written; they may be as wrong as one likes.
 #[derive(Clone, Debug, Default)]
 pub struct Bodies(pub [Vec<u8>; 6]);
@@ -43,6 +47,14 @@ impl Bodies {
     pub fn push(&mut self, body: usize, record: &[u8]) {
         assert_eq!(record.len(), RECORD[body]);
         self.0[body].extend_from_slice(record);
+    }
+
+    /// Adds the record of a state with these numbers of clauses, whose own records come next.
+    pub fn push_state(&mut self, whens: usize, actions: usize) {
+        let at = self.count(STATES);
+        self.push(STATES, &[0; RECORD[STATES]]);
+        self.set_number(STATES, at, WHEN_COUNT, whens as u16);
+        self.set_number(STATES, at, ACTION_COUNT, actions as u16);
     }
 
     /// The sheet: contents, then the bodies one behind the other.
@@ -112,9 +124,9 @@ fn place(guard: &Guard, share: bool, bodies: &mut Bodies) -> [u8; 2] {
     let mut records = Vec::new();
     guard_records(guard, &mut records);
     let pool = &mut bodies.0[GUARDS];
-    let found = (0..pool.len() / 8).find(|at| pool[at * 8..].starts_with(&records));
-    let at = match found {
-        Some(at) if share => at,
+    let mut found = (0..pool.len() / 8).filter(|at| share && pool[at * 8..].starts_with(&records));
+    let at = match found.next() {
+        Some(at) => at,
         _ => {
             pool.extend_from_slice(&records);
             (pool.len() - records.len()) / 8
@@ -151,9 +163,7 @@ pub fn bodies_of(class: &Class, share: bool) -> Bodies {
         bodies.push(CLASSES, &name_bytes(names));
     }
     for state in &class.states {
-        let [a, b] = (state.clauses.len() as u16).to_le_bytes();
-        let [c, d] = (state.actions.len() as u16).to_le_bytes();
-        bodies.push(STATES, &[a, b, c, d]);
+        bodies.push_state(state.clauses.len(), state.actions.len());
         for clause in &state.clauses {
             let [low, high] = place(&clause.guard, share, &mut bodies);
             let (referrer, target) = match clause.referrer {
