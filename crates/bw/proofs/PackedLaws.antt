@@ -19,8 +19,8 @@ use Rattle.bargewicker.specs.Questions.{Question}
 use Rattle.bargewicker.specs.Promises.{AnswerTo, numbers-of, Promised}
 use Rattle.bw.specs.Packed.{Field, side-by-side, fields, word, kinds, packed, kinds-of-probe, kinds-of-phase, kinds-of-command, kinds-of-loop, Returned, OneWordAndBuffer}
 
--- the largest number of a refusal is 15
-small : (x : Refusal) → number-of x ≤ 15
+-- the largest number of a refusal is 18
+small : (x : Refusal) → number-of x ≤ 18
 small x = elim x [ SheetLength ↦ omega arith | Contents ↦ omega arith | EmptyNameSet ↦ omega arith | ClauseCounts ↦ omega arith | GuardLayout ↦ omega arith | GuardReach ↦ omega arith | Target ↦ omega arith | ActionClause ↦ omega arith | Statement ↦ omega arith | ChildList ↦ omega arith | AskedState ↦ omega arith | AskedCommand ↦ omega arith | PresentBit ↦ omega arith | NameCount ↦ omega arith | Room ↦ omega arith | Naming ↦ omega arith | Limit ↦ omega arith ]
 
 -- a refusal is its own word, whatever was asked
