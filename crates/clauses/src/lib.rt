@@ -1,16 +1,16 @@
 // The bodies of states and of action clauses: each state says how many clauses it has, each action clause its command and how many statements.
 // They are counted ahead, in the words behind.
+use kinds::ACTION;
+use kinds::DO;
+use kinds::END;
+use kinds::IF;
+use kinds::MOVE_TO;
+use kinds::STATE;
+use kinds::WHEN;
 use lists::Found;
 use lists::number_in;
 use pen::put_one;
 use pen::put_two;
-use sizes::ACTION;
-use sizes::DO;
-use sizes::END;
-use sizes::IF;
-use sizes::MOVE_TO;
-use sizes::STATE;
-use sizes::WHEN;
 use sizes::tick;
 use words::next_word;
 ghost use mathlib.Core.Path.{_≡_};

@@ -48,6 +48,14 @@ same-length [] (y ∷ ys) e = absurd (clash (cc))
 same-length (x ∷ xs) [] e = absurd (clash (cc))
 same-length (x ∷ xs) (y ∷ ys) e = ap suc (same-length xs ys (and-right (eqb x y) (same xs ys) e))
 
+-- two that are the same are equal
+pub same-equal : (a b : List ℕ) → same a b ≡ true → a ≡ b
+unfolding same
+same-equal [] [] h = refl
+same-equal [] (y ∷ ys) h = absurd (clash (cc))
+same-equal (x ∷ xs) [] h = absurd (clash (cc))
+same-equal (x ∷ xs) (y ∷ ys) h = rw (eqb-true x y (and-left (eqb x y) (same xs ys) h), same-equal xs ys (and-right (eqb x y) (same xs ys) h))
+
 pub begins-inside : (w l : List ℕ) → begins w l ≡ true → length w ≤ length l
 begins-inside w l e =
     let h = same-length w (take (length w) l) e in

@@ -9,14 +9,15 @@ use mathlib.Core.List.{List, [], _∷_}
 use lib.Dec.{eqb, ltb, leb}
 use lib.ListN.{length, getD, take, drop, drop-of-length-le}
 use lib.Seq.{drop-cons, drop-length}
-use borrow.Author.Tests.{eq-eqb, ne-eqb, eqb-true, eqb-false, le-leb, lt-leb, lt-ltb, le-ltb}
-use Rattle.model.specs.Words.{choose, every}
+use borrow.Author.Tests.{eq-eqb, ne-eqb, eqb-true, eqb-false, le-leb, lt-leb, lt-ltb, le-ltb, ltb-true}
+use Rattle.model.specs.Words.{choose, every, each, listed}
+use Rattle.model.proofs.Words.{and-left, and-right, each-elim}
 use Rattle.grammar.specs.Words.{spelled, name-char, same, position, fixed-words, bare-runs, is-name}
 use Rattle.grammar.specs.Grammar.{fixed}
 use Rattle.grammar.specs.Words.{token-of}
 use Rattle.grammar.specs.Kinds.{token-as}
-use Rattle.grammar.proofs.Words.{same-length}
-use Rattle.kinds.specs.Kind.{OfKind}
+use Rattle.grammar.proofs.Words.{same-length, same-equal}
+use Rattle.kinds.specs.Kind.{OfKind, fixed-line, fixed-starts}
 
 -- two strings
 pub same-apart : (a b : List ℕ) → (length a ≡ length b → ⊥) → same a b ≡ false
@@ -58,9 +59,54 @@ same-over a b i s u v h =
     let q : drop i b ≡ [] = ap (λ (j : ℕ). drop j b) (n ∙ h) ∙ drop-length b in
     s ∙ (λ j. same (p j) (q j)) ∙ nil-same
 
--- a table's entry of a number that is known
-pub entry : (k n : ℕ) (w e : List ℕ) (r : Bool) → k ≡ n → getD fixed-words n [] ≡ e → r ≡ same e w → r ≡ same (getD fixed-words k []) w
-entry k n w e r p q h = h ∙ (λ j. same (sym (ap (λ (i : ℕ). getD fixed-words i []) p ∙ q) j) w)
+-- word k of the line
+unfoldable pub part : ℕ → List ℕ
+part k = take (getD fixed-starts (k + 1) 0 - 1 - getD fixed-starts k 0) (drop (getD fixed-starts k 0) fixed-line)
+
+unfoldable inside : ℕ → Bool
+inside k = ltb (getD fixed-starts k 0) (getD fixed-starts (k + 1) 0) && ltb (getD fixed-starts (k + 1) 0) 152
+
+all-inside : each 25 inside ≡ true
+unfolding each inside fixed-starts
+all-inside = refl
+
+all-fixed : each 25 (λ k. same (part k) (getD fixed-words k [])) ≡ true
+unfolding each part fixed-starts fixed-line spelled listed same fixed-words
+all-fixed = refl
+
+pub part-starts : (k : ℕ) → k < 25 → getD fixed-starts k 0 < getD fixed-starts (k + 1) 0
+unfolding inside
+part-starts k h = ltb-true _ _ (and-left (ltb (getD fixed-starts k 0) (getD fixed-starts (k + 1) 0)) (ltb (getD fixed-starts (k + 1) 0) 152) (each-elim 25 inside all-inside k h))
+
+pub part-ends : (k : ℕ) → k < 25 → getD fixed-starts (k + 1) 0 < 152
+unfolding inside
+part-ends k h = ltb-true _ _ (and-right (ltb (getD fixed-starts k 0) (getD fixed-starts (k + 1) 0)) (ltb (getD fixed-starts (k + 1) 0) 152) (each-elim 25 inside all-inside k h))
+
+pub part-fixed : (k : ℕ) (w : List ℕ) (r : Bool) → k < 25 → r ≡ same (part k) w → r ≡ same (getD fixed-words k []) w
+part-fixed k w r h e = e ∙ (λ j. same (same-equal (part k) (getD fixed-words k []) (each-elim 25 (λ i. same (part i) (getD fixed-words i [])) all-fixed k h) j) w)
+
+line-length : length fixed-line ≡ 150
+unfolding fixed-line spelled listed
+line-length = refl
+
+-- the same of a line and of starts that are those
+module _ (l s : List ℕ) (p : l ≡ fixed-line) (q : s ≡ fixed-starts) (k : ℕ) (h : k < 25) where
+  pub in-starts : k + 1 < length s
+  unfolding fixed-starts
+  in-starts = subst (λ (v : List ℕ). k + 1 < length v) (sym q) (let z : k + 1 < 26 = omega arith in z)
+
+  pub starts-rise : getD s k 0 < getD s (k + 1) 0
+  starts-rise = subst (λ (v : List ℕ). getD v k 0 < getD v (k + 1) 0) (sym q) (part-starts k h)
+
+  pub ends-inside : getD s (k + 1) 0 - 1 ≤ length l
+  ends-inside = subst (λ (v : List ℕ). getD v (k + 1) 0 - 1 ≤ length l) (sym q) (subst (λ (v : List ℕ). getD fixed-starts (k + 1) 0 - 1 ≤ length v) (sym p) long)
+    where
+      long : getD fixed-starts (k + 1) 0 - 1 ≤ length fixed-line
+      long = let z = part-ends k h in let y = line-length in omega (arith, z, y)
+
+  pub is-word : (w : List ℕ) (r : Bool) → r ≡ same (take (getD s (k + 1) 0 - 1 - getD s k 0) (drop (getD s k 0) l)) w → r ≡ same (getD fixed-words k []) w
+  unfolding part
+  is-word w r e = part-fixed k w r h (e ∙ (λ j. same (take (getD (q j) (k + 1) 0 - 1 - getD (q j) k 0) (drop (getD (q j) k 0) (p j))) w))
 
 count : length fixed-words ≡ 25
 unfolding fixed-words
@@ -108,17 +154,6 @@ look-end w k l h =
     let n : k ≡ 25 = (let z = l .low in omega arith) in
     let d : position (drop k fixed-words) w ≡ 0 = ap (λ (i : ℕ). position (drop i fixed-words) w) n ∙ none-left w in
     (let z = l .place in omega (arith, z, d), l .low)
-
--- past one number more
-pub above : (k n : ℕ) → n ≤ k → (k ≡ n → ⊥) → suc n ≤ k
-above k n l h = go (eqb k n) refl
-  where
-    go : (t : Bool) → eqb k n ≡ t → suc n ≤ k
-    go true e = absurd (h (eqb-true k n e))
-    go false e = let z = eqb-false k n e in omega arith
-
-pub least-zero : (k : ℕ) → 0 ≤ k
-least-zero k = omega arith
 
 -- seven comparisons with the bare runs
 seven : (a b c d e f g : Bool) → not (a || (b || (c || (d || (e || (f || g)))))) ≡ eqb (choose a (λ _. 0) (λ _. suc (choose b (λ _. 0) (λ _. suc (choose c (λ _. 0) (λ _. suc (choose d (λ _. 0) (λ _. suc (choose e (λ _. 0) (λ _. suc (choose f (λ _. 0) (λ _. suc (choose g (λ _. 0) (λ _. 1)))))))))))))) 7

@@ -1,12 +1,67 @@
 // Which word the bytes are: two strings compared, the number of a fixed word, a name.
 ghost use mathlib.Core.Path.{_≡_};
 ghost use mathlib.Core.List.{[]};
-ghost use Prim.Native.Nat.{_<_, _≤_};
-ghost use lib.ListN.{getD};
+ghost use Prim.Native.Nat.{_-_, _<_, _≤_};
+ghost use lib.ListN.{length, getD, take, drop};
 ghost use lib.Dec.{eqb};
 ghost use Rattle.model.specs.Words.{every};
 ghost use Rattle.grammar.specs.Words.{name-char, same, position, fixed-words, bare-runs, is-name};
-ghost use Rattle.kinds.specs.Kind.{OfKind};
+ghost use Rattle.kinds.specs.Kind.{OfKind, fixed-line, fixed-starts};
+
+// The kinds of words: a name, the fixed words in the order of their numbers, the end.
+pub const NAME: u8 = 0;
+
+pub const CLASS: u8 = 1;
+
+pub const STATE: u8 = 2;
+
+pub const ACTION: u8 = 3;
+
+pub const TOP: u8 = 4;
+
+pub const ANY: u8 = 5;
+
+pub const ALL: u8 = 6;
+
+pub const WHEN: u8 = 7;
+
+pub const MOVE_TO: u8 = 8;
+
+pub const DO: u8 = 9;
+
+pub const STAY: u8 = 10;
+
+pub const IF: u8 = 11;
+
+pub const THEN: u8 = 12;
+
+pub const ELSE: u8 = 13;
+
+pub const ENDIF: u8 = 14;
+
+pub const AND: u8 = 15;
+
+pub const OR: u8 = 16;
+
+pub const NOT: u8 = 17;
+
+pub const IN: u8 = 18;
+
+pub const NOT_IN: u8 = 19;
+
+pub const CHILDREN: u8 = 20;
+
+pub const OPEN: u8 = 21;
+
+pub const CLOSE: u8 = 22;
+
+pub const LEFT: u8 = 23;
+
+pub const RIGHT: u8 = 24;
+
+pub const COMMA: u8 = 25;
+
+pub const END: u8 = 26;
 
 // Two strings of bytes are the same.
 pub fn is_same(a: &[u8], b: &[u8]) -> bool
@@ -25,97 +80,64 @@ pub fn is_same(a: &[u8], b: &[u8]) -> bool
     true
 }
 
-// It is the fixed word of that number.
-fn is_fixed(k: usize, word: &[u8]) -> bool
-    requires { ⌜ k < 25 ⌝ }
+// Where the fixed words start in their line, each one blank behind the last.
+const STARTS: [usize; 26] = [
+    0,
+    7,
+    14,
+    22,
+    36,
+    42,
+    48,
+    53,
+    61,
+    64,
+    78,
+    81,
+    86,
+    91,
+    97,
+    101,
+    104,
+    108,
+    117,
+    130,
+    141,
+    143,
+    145,
+    147,
+    149,
+    151,
+];
+
+// A word is what stands between two places of a line.
+fn is_part(line: &[u8], from: usize, to: usize, word: &[u8]) -> bool
+    requires { ⌜ (from ≤ to) × (to ≤ length (now line)) ⌝ }
+    ensures { λ r. ⌜ r ≡ same (take (to - from) (drop from (now (line .entry)))) (now (word .entry)) ⌝ }
+{
+    is_same(&line[from..to], word)
+}
+
+// It is the fixed word of that number, in their line.
+fn is_fixed(line: &[u8], starts: &[usize], k: usize, word: &[u8]) -> bool
+    requires { ⌜ (now line ≡ fixed-line) × ((now starts ≡ fixed-starts) × (k < 25)) ⌝ }
     ensures { λ r. ⌜ r ≡ same (getD fixed-words k []) (now (word .entry)) ⌝ }
 {
-    match k {
-        0 => {
-            return is_same(b"class:", word);
-        }
-        1 => {
-            return is_same(b"state:", word);
-        }
-        2 => {
-            return is_same(b"action:", word);
-        }
-        3 => {
-            return is_same(b"$FWPART_$TOP$", word);
-        }
-        4 => {
-            return is_same(b"$ANY$", word);
-        }
-        5 => {
-            return is_same(b"$ALL$", word);
-        }
-        6 => {
-            return is_same(b"when", word);
-        }
-        7 => {
-            return is_same(b"move_to", word);
-        }
-        8 => {
-            return is_same(b"do", word);
-        }
-        9 => {
-            return is_same(b"stay_in_state", word);
-        }
-        10 => {
-            return is_same(b"if", word);
-        }
-        11 => {
-            return is_same(b"then", word);
-        }
-        12 => {
-            return is_same(b"else", word);
-        }
-        13 => {
-            return is_same(b"endif", word);
-        }
-        14 => {
-            return is_same(b"and", word);
-        }
-        15 => {
-            return is_same(b"or", word);
-        }
-        16 => {
-            return is_same(b"not", word);
-        }
-        17 => {
-            return is_same(b"in_state", word);
-        }
-        18 => {
-            return is_same(b"not_in_state", word);
-        }
-        19 => {
-            return is_same(b"FwCHILDREN", word);
-        }
-        20 => {
-            return is_same(b"(", word);
-        }
-        21 => {
-            return is_same(b")", word);
-        }
-        22 => {
-            return is_same(b"{", word);
-        }
-        23 => {
-            return is_same(b"}", word);
-        }
-        _ => {
-            return is_same(b",", word);
-        }
-    }
+    let from = starts[k];
+    let to = starts[k + 1] - 1;
+    is_part(line, from, to, word)
 }
 
 // The number of the fixed word; 25 if it is none.
 pub fn fixed_number(word: &[u8]) -> usize
     ensures { λ r. ⌜ (r ≡ position fixed-words (now (word .entry))) × (r ≤ 25) ⌝ }
 {
+    let line =
+        b"class: state: action: $FWPART_$TOP$ $ANY$ $ALL$ when move_to do stay_in_state if then else endif and or not in_state not_in_state FwCHILDREN ( ) { } ,";
+    let starts = STARTS;
     let mut k = 0;
     while k < 25 {
-        if is_fixed(k, word) {
+        if is_fixed(line, &starts, k, word) {
             return k;
         }
         k = k + 1;

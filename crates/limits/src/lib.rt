@@ -5,9 +5,10 @@ use records::guards::End;
 use records::guards::guard_end;
 use sizes::Sizes;
 ghost use mathlib.Core.Path.{_≡_};
+ghost use Prim.Native.Nat.{_<_};
 ghost use Rattle.lists.specs.Lent.{lent};
 ghost use Rattle.limits.specs.Shallow.{shallow};
-ghost use Rattle.limits.specs.Counts.{counts-right, sets-right, few-enough};
+ghost use Rattle.limits.specs.Counts.{counts-right, SetsTold, FewTold};
 
 // No guard of a body of guard records, which stand one behind the other, has more than 16 operators on a path.
 pub fn all_shallow(guards: &[u8]) -> bool
@@ -36,14 +37,21 @@ fn counts_right(classes: usize, n: Sizes) -> bool
                     & ((n.guards <= 1024) & ((n.actions <= 256) & (n.statements <= 1024))))))
 }
 
+// A name set is a number of 32 bits.
+fn whole(set: u32) -> u32
+    ensures { λ r. ⌜ (r ≡ set) × (r < 4294967296) ⌝ }
+{
+    set
+}
+
 // No child class has an empty name set.
 fn sets_right(classes: &[u8]) -> bool
-    ensures { λ r. ⌜ r ≡ sets-right (now (classes .entry)) ⌝ }
+    ensures { λ r. ⌜ SetsTold (now (classes .entry)) r ⌝ }
 {
     let n = record_count(classes, 36);
     let mut i = 0;
     while i < n {
-        if class_set(classes, i) == 0 {
+        if whole(class_set(classes, i)) == 0 {
             return false;
         }
         i = i + 1;
@@ -53,7 +61,7 @@ fn sets_right(classes: &[u8]) -> bool
 
 // No limit is passed but perhaps that of operators on a path.
 pub fn few_enough(n: Sizes, names: &[u8], commands: &[u8], classes: &[u8]) -> bool
-    ensures { λ r. ⌜ r ≡ few-enough n (lent (now (names .entry)) (now (commands .entry)) (now (classes .entry))) ⌝ }
+    ensures { λ r. ⌜ FewTold n (lent (now (names .entry)) (now (commands .entry)) (now (classes .entry))) r ⌝ }
 {
     let lists = (names.len() / 32 <= 32) & (commands.len() / 32 <= 64);
     lists & (counts_right(classes.len() / 36, n) & (sets_right(classes) & (n.deepest <= 8)))

@@ -14,16 +14,10 @@ use Rattle.model.proofs.Words.{clash, and-left, and-right, and-both}
 use Rattle.model.proofs.Bits.{has-half}
 use Rattle.model.proofs.Masks.{has-zero}
 use Rattle.grammar.specs.Words.{name-char, is-name, fixed-words, bare-runs, same, position}
+use Rattle.grammar.proofs.Words.{same-equal}
 use Rattle.naming.specs.NameLists.{padded, characters, number-in, listed-in}
 
--- two that are the same are equal, and one is the same as itself
-pub same-equal : (a b : List ℕ) → same a b ≡ true → a ≡ b
-unfolding same
-same-equal [] [] h = refl
-same-equal [] (y ∷ ys) h = absurd (clash (cc))
-same-equal (x ∷ xs) [] h = absurd (clash (cc))
-same-equal (x ∷ xs) (y ∷ ys) h = rw (eqb-true x y (and-left (eqb x y) (same xs ys) h), same-equal xs ys (and-right (eqb x y) (same xs ys) h))
-
+-- one is the same as itself
 pub same-self : (a : List ℕ) → same a a ≡ true
 unfolding same
 same-self [] = refl

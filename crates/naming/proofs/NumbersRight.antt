@@ -230,26 +230,38 @@ module _ (l : Lists) where
         states-right ss (and-right (state-known l own s) (every (state-known l own) ss) h) (k .1),
       )
 
--- THEOREM: the numbers of a text whose names are known, with at most 32 child names and 64 commands
-pub numbers-right : (b : List ℕ) (l : Lists) (t : G.Text) → Says b t → Bytes (l .classes) → length (child-names l) ≤ 32 → length (command-names l) ≤ 64
-    → text-known l t ≡ true → Numbers (class-in l t)
-unfolding text-known class-in class-sets own-names
-numbers-right b l t e bytes few-names few-commands h =
+-- THEOREM: the numbers of a text whose names are known, with at most 32 child names and 64 commands, where the classes' sets have 32 bits
+pub numbers-by-sets : (b : List ℕ) (l : Lists) (t : G.Text) → Says b t → Every (λ s. s < 2 ^ 32) (class-sets l) → length (child-names l) ≤ 32
+    → length (command-names l) ≤ 64 → text-known l t ≡ true → Numbers (class-in l t)
+unfolding text-known class-in own-names
+numbers-by-sets b l t e sets few-names few-commands h =
     let own = own-names t in
     let r = states-right l few-names few-commands own (all-states t) (and-left (every (state-known l own) (all-states t)) (none-twice own) h) (states-named b t e) in
     record {
-      sets = sets-fit (l .classes) bytes 0 (length (l .classes) / 36);
+      sets = sets;
       states = rw (length-map (all-states t) (λ s. s .own), ← length-map (all-states t) (state-of l own)) at r;
     }
 
+-- as sets of four bytes have
+pub numbers-right : (b : List ℕ) (l : Lists) (t : G.Text) → Says b t → Bytes (l .classes) → length (child-names l) ≤ 32 → length (command-names l) ≤ 64
+    → text-known l t ≡ true → Numbers (class-in l t)
+unfolding class-sets
+numbers-right b l t e bytes few-names few-commands h =
+    numbers-by-sets b l t e (sets-fit (l .classes) bytes 0 (length (l .classes) / 36)) few-names few-commands h
+
 -- so within the limits a sheet can stand for its class: the judge accepts the class's sheet, which stands for the class
-pub class-within : (b : List ℕ) (l : Lists) (t : G.Text) → Says b t → Bytes (l .classes) → lists-within l ≡ true → text-known l t ≡ true
-    → within-limits (class-in l t) ≡ true → Within (class-in l t)
+pub class-by-sets : (b : List ℕ) (l : Lists) (t : G.Text) → Says b t → Every (λ s. s < 2 ^ 32) (class-sets l) → lists-within l ≡ true
+    → text-known l t ≡ true → within-limits (class-in l t) ≡ true → Within (class-in l t)
 unfolding lists-within
-class-within b l t e bytes few h limits =
+class-by-sets b l t e sets few h limits =
     let n = leb-true (length (child-names l)) 32 (and-left (leb (length (child-names l)) 32) (leb (length (command-names l)) 64) few) in
     let c = leb-true (length (command-names l)) 64 (and-right (leb (length (child-names l)) 32) (leb (length (command-names l)) 64) few) in
-    laid (class-in l t) .within limits (numbers-right b l t e bytes n c h)
+    laid (class-in l t) .within limits (numbers-by-sets b l t e sets n c h)
+
+pub class-within : (b : List ℕ) (l : Lists) (t : G.Text) → Says b t → Bytes (l .classes) → lists-within l ≡ true → text-known l t ≡ true
+    → within-limits (class-in l t) ≡ true → Within (class-in l t)
+unfolding class-sets
+class-within b l t e bytes few h limits = class-by-sets b l t e (sets-fit (l .classes) bytes 0 (length (l .classes) / 36)) few h limits
 
 pub class-encoded : (b : List ℕ) (l : Lists) (t : G.Text) → Says b t → Bytes (l .classes) → lists-within l ≡ true → text-known l t ≡ true
     → within-limits (class-in l t) ≡ true → Encoded (class-in l t)

@@ -15,11 +15,12 @@ use Rattle.model.proofs.Lists.{length-listed}
 use Rattle.grammar.specs.Grammar.{State, Text}
 use Rattle.grammar.specs.Words.{name-char, is-name, same, position, fixed-words, bare-runs}
 use Rattle.grammar.specs.Reading.{Says}
+use Rattle.grammar.proofs.Words.{same-equal}
 use Rattle.encoding.specs.Numbers.{Every}
 use Rattle.naming.specs.NameLists.{Lists, padded, record-right, records-in, none-twice, list-right}
 use Rattle.naming.specs.Naming.{all-states, own-names, joined, table-of}
 use Rattle.naming.specs.Known.{state-known, text-known}
-use Rattle.naming.proofs.NameLaws.{same-equal, same-self, characters-padded, same-record}
+use Rattle.naming.proofs.NameLaws.{same-self, characters-padded, same-record}
 use Rattle.naming.proofs.Spoken.{Named, Spoken, states-named}
 
 abbrev pub IsName : List ℕ → Type 0

@@ -19,7 +19,7 @@ use Rattle.words.specs.Scanning.{stretch}
 use Rattle.own.specs.Ahead.{names-from}
 use Rattle.own.specs.declared.Named.{Named}
 use Rattle.own.specs.declared.Named.the-variants.{At, Nowhere}
-use Rattle.own.specs.Held.{Here, NextNamed, held, all-names, Places, Filling, Filled}
+use Rattle.own.specs.Held.{Here, NextNamed, held, all-names, Places, Holds, Filling, Filled}
 
 -- what an answer tells
 module _ (text : List ℕ) (kind stop at : ℕ) (r : Named) (n : NextNamed text kind stop at r) where
@@ -114,3 +114,6 @@ module _ (table : List ℕ) (n start end : ℕ) (room : 2 * n + 1 < length table
         onward = (let a = f .onward in let b = h .onward in omega arith);
         inside = λ l. h .inside;
       }
+
+pub filled-holds : (text table : List ℕ) (kind stop at count rest : ℕ) → Filled text table kind stop at count rest → Holds text table count rest
+filled-holds text table kind stop at count rest f = record { places = f .filling .places; fewer = (let a = f .filling .onward in omega arith) }

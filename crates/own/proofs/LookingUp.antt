@@ -1,6 +1,6 @@
 -- Laws of looking a name up: among the names ahead, and in a table and behind it.
 -- Assumes nothing.
-use Prim.Native.Nat.{ℕ, zero, suc, _+_, _-_, _<_, _≤_}
+use Prim.Native.Nat.{ℕ, zero, suc, _+_, _-_, _/_, _<_, _≤_}
 use native.Mathlib.Omega.{arith}
 use native.Mathlib.Numerals.{add-one}
 use mathlib.Core.Path.{_≡_, refl, sym, _∙_, ap}
@@ -22,7 +22,7 @@ use Rattle.naming.specs.NameLists.{none-twice}
 use Rattle.naming.specs.Known.{among}
 use Rattle.words.specs.Scanning.{stretch}
 use Rattle.own.specs.Ahead.{names-from}
-use Rattle.own.specs.Held.{Here, held, none-of, all-names}
+use Rattle.own.specs.Held.{Here, held, none-of, all-names, Filled}
 
 -- the loop's invariant
 pub record Going (text : List ℕ) (kind stop at : ℕ) (word : List ℕ) (first i from : ℕ) : Type 0 where
@@ -147,3 +147,35 @@ twice-parts [] ys = rw (none-of-none ys)
 twice-parts (x ∷ xs) ys =
     rw (some-append (same x) xs ys, twice-parts xs ys, none-of-more x xs ys)
     (regrouped (some-in (same x) xs) (some-in (same x) ys) (none-twice xs) (every (none-of xs) ys) (none-twice ys))
+
+-- the names of a table and those behind it
+module _ (text table : List ℕ) (kind stop from count rest : ℕ) (f : Filled text table kind stop from count rest) where
+  abbrev first : List Name
+  first = listed 0 count (held text table)
+
+  in-parts : none-twice (names-from text kind stop from) ≡ (none-twice first && (every (none-of first) (names-from text kind stop rest) && none-twice (names-from text kind stop rest)))
+  unfolding all-names
+  in-parts = ap none-twice (sym (f .filling .names)) ∙ twice-parts first (names-from text kind stop rest)
+
+  module _ (r : Bool) (e : r ≡ none-twice first) where
+    pub differ-broken : r ≡ false → none-twice (names-from text kind stop from) ≡ false
+    differ-broken h = in-parts ∙ rw (sym e ∙ h)
+
+    pub differ-last : r ≡ true → count < 8192 → length table ≡ 16384 → none-twice (names-from text kind stop from) ≡ true
+    unfolding none-twice every
+    differ-last h l n =
+        let k : count < length table / 2 = omega arith in
+        in-parts ∙ rw (sym e ∙ h, f .complete k)
+
+    module _ (h : r ≡ true) (s : Bool) (g : s ≡ every (none-of first) (names-from text kind stop rest)) where
+      pub differ-met : s ≡ false → none-twice (names-from text kind stop from) ≡ false
+      differ-met k = in-parts ∙ rw (sym e ∙ h, sym g ∙ k)
+
+      pub differ-on : s ≡ true → none-twice (names-from text kind stop from) ≡ none-twice (names-from text kind stop rest)
+      differ-on k = in-parts ∙ rw (sym e ∙ h, sym g ∙ k)
+
+  pub differ-less : 8192 ≤ count → length text - rest < length text - from
+  differ-less l =
+      let a = f .filling .onward in
+      let b = f .filling .inside (let z : 0 < count = omega arith in z) in
+      omega arith

@@ -49,6 +49,11 @@ pub record Places (text table : List ℕ) (count : ℕ) : Type 0 where
   pub whole : (i : ℕ) → i < count → getD table (2 * i) 0 ≤ getD table (2 * i + 1) 0
   pub inside : (i : ℕ) → i < count → getD table (2 * i + 1) 0 ≤ length text
 
+-- as many names as a table holds stand before the place from which they go on
+pub record Holds (text table : List ℕ) (count rest : ℕ) : Type 0 where
+  pub places : Places text table count
+  pub fewer : count ≤ rest
+
 -- a table that holds the first names from a place on, as far as it was filled
 pub record Filling (text table : List ℕ) (kind stop at count rest : ℕ) : Type 0 where
   pub places : Places text table count

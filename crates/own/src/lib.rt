@@ -5,12 +5,11 @@ use lists::Found;
 use words::next_word;
 ghost use mathlib.Core.Path.{_≡_};
 ghost use Prim.Native.Nat.{_<_, _≤_};
-ghost use Rattle.model.specs.Words.{every, some-in, listed};
-ghost use Rattle.grammar.specs.Words.{same};
-ghost use Rattle.lists.specs.Lent.{found-from, behind};
-ghost use Rattle.naming.specs.NameLists.{none-twice};
+ghost use lib.ListN.{length};
+ghost use Rattle.model.specs.Words.{listed};
+ghost use Rattle.lists.specs.Lent.{found-from};
 ghost use Rattle.own.specs.Ahead.{names-from};
-ghost use Rattle.own.specs.Held.{Kinds, NextNamed, held, none-of, all-names, Places, Filled};
+ghost use Rattle.own.specs.Held.{Kinds, NextNamed, held, all-names, Places, Holds, Filled};
 
 // Where the next name starts and ends, or that there is none.
 pub enum Named {
@@ -78,7 +77,7 @@ pub fn hold(text: &[u8], at: usize, kind: u8, stop: u8, table: &mut [usize]) -> 
 }
 
 // Name i of a table.
-fn name_held<'a>(text: &'a [u8], table: &[usize], count: usize, i: usize) -> &'a [u8]
+pub fn name_held<'a>(text: &'a [u8], table: &[usize], count: usize, i: usize) -> &'a [u8]
     requires { ⌜ Places (now text) (now table) count × (i < count) ⌝ }
     ensures { λ r. ⌜ now r ≡ held (now (text .entry)) (now (table .entry)) i ⌝ }
 {
@@ -88,7 +87,7 @@ fn name_held<'a>(text: &'a [u8], table: &[usize], count: usize, i: usize) -> &'a
 }
 
 // The number of a word among the names that a table holds.
-fn among_held(text: &[u8], table: &[usize], count: usize, word: &[u8]) -> Found
+pub fn among_held(text: &[u8], table: &[usize], count: usize, word: &[u8]) -> Found
     requires { ⌜ Places (now text) (now table) count ⌝ }
     ensures { λ r. ⌜ r ≡ found-from 0 (listed 0 count (held (now (text .entry)) (now (table .entry)))) (now (word .entry)) ⌝ }
 {
@@ -136,7 +135,7 @@ pub fn number_of(
     stop: u8,
     word: &[u8],
 ) -> Found
-    requires { ⌜ Kinds kind stop × (Places (now text) (now table) count × (count ≤ rest)) ⌝ }
+    requires { ⌜ Kinds kind stop × Holds (now text) (now table) count rest ⌝ }
     ensures { λ r. ⌜ r ≡ found-from 0 (all-names (now (text .entry)) (now (table .entry)) count kind stop rest) (now (word .entry)) ⌝ }
 {
     let found = among_held(text, table, count, word);
@@ -146,56 +145,9 @@ pub fn number_of(
     }
 }
 
-// Name i of a table stands in it again, behind that place.
-fn held_again(text: &[u8], table: &[usize], count: usize, i: usize) -> bool
-    requires { ⌜ Places (now text) (now table) count × (i < count) ⌝ }
-    ensures { λ r. ⌜ r ≡ some-in (same (held (now (text .entry)) (now (table .entry)) i)) (behind (held (now (text .entry)) (now (table .entry))) count i) ⌝ }
+// A table with room for 8,192 names.
+pub fn empty_table() -> [usize; 16384]
+    ensures { λ r. ⌜ length r ≡ 16384 ⌝ }
 {
-    let name = name_held(text, table, count, i);
-    let mut j = i + 1;
-    while j < count {
-        if is_same(name, name_held(text, table, count, j)) {
-            return true;
-        }
-        j = j + 1;
-    }
-    false
-}
-
-// No name stands twice in a table.
-fn held_differ(text: &[u8], table: &[usize], count: usize) -> bool
-    requires { ⌜ Places (now text) (now table) count ⌝ }
-    ensures { λ r. ⌜ r ≡ none-twice (listed 0 count (held (now (text .entry)) (now (table .entry)))) ⌝ }
-{
-    let mut i = 0;
-    while i < count {
-        if held_again(text, table, count, i) {
-            return false;
-        }
-        i = i + 1;
-    }
-    true
-}
-
-// None of the names from a place on is in a table.
-fn none_held(text: &[u8], table: &[usize], count: usize, at: usize, kind: u8, stop: u8) -> bool
-    requires { ⌜ Kinds kind stop × Places (now text) (now table) count ⌝ }
-    ensures { λ r. ⌜ r ≡ every (none-of (listed 0 count (held (now (text .entry)) (now (table .entry))))) (names-from (now (text .entry)) kind stop at) ⌝ }
-{
-    let mut from = at;
-    loop {
-        let named = next_named(text, from, kind, stop);
-        match named {
-            Named::At(start, end) => {
-                from = end;
-                let found = among_held(text, table, count, &text[start..end]);
-                if let Found::At(_) = found {
-                    return false;
-                }
-            }
-            Named::Nowhere => {
-                return true;
-            }
-        }
-    }
+    [0usize; 16384]
 }

@@ -5,10 +5,10 @@ use native.Mathlib.Omega.{arith}
 use mathlib.Core.Path.{_≡_, refl, sym, _∙_, ap}
 use mathlib.Core.List.{List, [], _∷_, _++_, append-assoc}
 use lib.ListN.{length, getD, take, drop, set, length-append, length-take, length-drop, take-append-drop, List·getD-append}
-use lib.Seq.{sets, sets-eq, take-take, take-nil, drop-nil, drop-cons, getD-take, set-append-left, take-set-lt, take-suc-set, append-snoc, take-append-le, take-at, drop-at, length-take-le}
+use lib.Seq.{sets, sets-eq, take-take, take-nil, drop-cons, getD-take, set-append-left, take-set-lt, take-suc-set, append-snoc, take-append-le, take-at, drop-at, length-take-le}
 use Rattle.encoding.specs.Records.{Eight, bytes8, eights}
 use Rattle.encoding.proofs.From.{length-eights, drop-eights}
-use Rattle.prefixed.specs.Ordering.{inserted}
+use Rattle.ordering.specs.Ordering.{inserted}
 use Rattle.prefixed.specs.Inserting.{opened, with-record}
 
 -- the loop that opens the room: before its first turn, and a turn

@@ -1,6 +1,4 @@
-pub mod AtomLaws
-pub mod AtomSteps
 pub mod InsertLaws
-pub mod Operands
-pub mod Whole
-pub mod Worked
+pub mod WalkLaws
+pub mod Underway
+pub mod Unique

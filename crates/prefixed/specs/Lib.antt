@@ -1,2 +1,3 @@
-pub mod Ordering
 pub mod Inserting
+pub mod Walking
+pub mod Unique

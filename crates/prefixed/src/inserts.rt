@@ -6,7 +6,7 @@ ghost use Prim.Native.Nat.{_+_, _*_, _≤_};
 ghost use lib.ListN.{length};
 ghost use lib.Seq.{sets};
 ghost use Rattle.encoding.specs.Records.{bytes8};
-ghost use Rattle.prefixed.specs.Ordering.{atom-record};
+ghost use Rattle.ordering.specs.Ordering.{atom-record};
 ghost use Rattle.prefixed.specs.Inserting.{opened, with-record};
 
 // Moves the bytes from a place to another up by eight.

@@ -29,11 +29,11 @@ use Rattle.steps.specs.Opening.{Ifs, had-else, open-after, ifs-after}
 use Rattle.steps.proofs.Simulated.{want-of, opened, Opened, opened-after, by-number, by-number-after, Leads, step-leads}
 use Rattle.recognised.specs.declared.Found.the-variants.{Wrong, Fine}
 use Rattle.recognised.specs.Recognised.{Recognised}
-use Rattle.recognised.specs.Watching.{Along, ifs-along, begun-at, HadElse}
-use Rattle.recognised.proofs.Watches.{word-of, word-then, word-last, along-one, ifs-one, counted-up}
+use Rattle.recognised.specs.Watching.{Along, ifs-along, begun-at, Marks, Noted, HadElse}
+use Rattle.recognised.proofs.Watches.{word-of, word-then, word-last, along-one, ifs-one, counted-up, marks-none, marks-on}
 
 -- what the loop has walked: the machine's place, what is wanted and open there, and the words since no if was open
-pub record Walked (text : List ℕ) (want : Want) (o : Open) (from at : ℕ) : Type 0 where
+pub record Walked (text : List ℕ) (marks : List Bool) (want : Want) (o : Open) (from at : ℕ) : Type 0 where
   pub place : At
   pub reached : Reached text (words-from text at) place
   pub wanted : want-of place ≡ want
@@ -41,12 +41,13 @@ pub record Walked (text : List ℕ) (want : Want) (o : Open) (from at : ℕ) : T
   pub since : List Word
   pub along : Along text from since at
   pub ifs-are : ifs-along [] since ≡ opened place .ifs
+  pub marks-are : Marks marks (opened place .ifs)
   pub few-brackets : o .brackets ≤ at
   pub few-ifs : o .ifs ≤ at
 
-pub walk-none : (text : List ℕ) → Walked text Start (record { brackets = 0; nested = false; ifs = 0 }) 0 0
+pub walk-none : (text : List ℕ) (marks : List Bool) → Walked text marks Start (record { brackets = 0; nested = false; ifs = 0 }) 0 0
 unfolding want-of opened Along ifs-along words-from words
-walk-none text =
+walk-none text marks =
     record {
       place = start;
       reached = reached-none text;
@@ -55,13 +56,14 @@ walk-none text =
       since = [];
       along = refl;
       ifs-are = refl;
+      marks-are = marks-none marks;
       few-brackets = (let z : 0 ≤ 0 = omega arith in z);
       few-ifs = (let z : 0 ≤ 0 = omega arith in z);
     }
 
 -- at the next word, with what the code has found of it
-module _ (text : List ℕ) (want : Want) (o : Open) (from at : ℕ) (W : Walked text want o from at) (kind start end : ℕ) (N : Next text at kind start end) (had : Bool)
-    (H : HadElse text from at (o .ifs) kind had) (r : Go) (e : r ≡ going (turns want (o .brackets) (o .nested) (o .ifs) had) kind) where
+module _ (text : List ℕ) (marks : List Bool) (want : Want) (o : Open) (from at : ℕ) (W : Walked text marks want o from at) (kind start end : ℕ) (N : Next text at kind start end) (had : Bool)
+    (H : HadElse text from at (o .ifs) kind marks had) (r : Go) (e : r ≡ going (turns want (o .brackets) (o .nested) (o .ifs) had) kind) where
   abbrev w : Word
   w = word-of text kind start end
 
@@ -71,7 +73,9 @@ module _ (text : List ℕ) (want : Want) (o : Open) (from at : ℕ) (W : Walked 
   right-else : kind-of (w .token) ≡ 13 → had ≡ had-else (opened (W .place) .ifs)
   unfolding HadElse
   right-else p =
-      H (sym kind-is ∙ p) (W .since) (W .along) (ap length (W .ifs-are) ∙ ap (λ (x : Open). x .ifs) (W .open-is)) ∙ ap had-else (W .ifs-are)
+      H (sym kind-is ∙ p) (W .since) (W .along) (ap length (W .ifs-are) ∙ ap (λ (x : Open). x .ifs) (W .open-is))
+      (subst (Marks marks) (sym (W .ifs-are)) (W .marks-are))
+      ∙ ap had-else (W .ifs-are)
 
   told : Leads (opened (W .place)) kind r (next (moves (W .place)) (w .token))
   told =
@@ -112,7 +116,8 @@ module _ (text : List ℕ) (want : Want) (o : Open) (from at : ℕ) (W : Walked 
       reached-end text t (reached-next text w [] (W .place) t s p)
 
   -- another word can stand
-  module _ (v : Want) (o′ : Open) (from′ : ℕ) (f : r ≡ To v) (h : kind ≡ 26 → ⊥) (g : o′ ≡ open-after o kind) (b : from′ ≡ begun-at from end (o′ .ifs)) where
+  module _ (v : Want) (o′ : Open) (from′ : ℕ) (f : r ≡ To v) (h : kind ≡ 26 → ⊥) (g : o′ ≡ open-after o kind) (b : from′ ≡ begun-at from end (o′ .ifs)) (marks′ : List Bool)
+      (n : Noted marks (o′ .ifs) kind marks′) where
     record Since (t : At) : Type 0 where
       since : List Word
       along : Along text from′ since end
@@ -141,7 +146,13 @@ module _ (text : List ℕ) (want : Want) (o : Open) (from at : ℕ) (W : Walked 
               ifs-are = ifs-one [] (W .since) w ∙ ((λ j. ifs-after (W .ifs-are j) (kind-is j)) ∙ sym (ap (λ (x : Opened). x .ifs) c));
             }
 
-    pub walk-on : Walked text v o′ from′ end
+    marks-right : (t : At) → opened t ≡ opened-after (opened (W .place)) kind → Marks marks′ (opened t .ifs)
+    unfolding opened-after
+    marks-right t c =
+        marks-on marks marks′ (opened (W .place) .ifs) (opened t .ifs) kind (W .marks-are) (ap (λ (x : Opened). x .ifs) c)
+        (subst (λ (l : ℕ). Noted marks l kind marks′) (sym (ap (λ (x : Open). x .ifs) (open-on t c))) n)
+
+    pub walk-on : Walked text marks′ v o′ from′ end
     unfolding open-after
     walk-on =
         let (t, p, q, c) = onward v f in
@@ -155,6 +166,7 @@ module _ (text : List ℕ) (want : Want) (o : Open) (from at : ℕ) (W : Walked 
           since = d .since;
           along = d .along;
           ifs-are = d .ifs-are;
+          marks-are = marks-right t c;
           few-brackets = few (ap (λ (x : Open). x .brackets) g) (counted-up (o .brackets) kind 21 22) (W .few-brackets);
           few-ifs = few (ap (λ (x : Open). x .ifs) g) (counted-up (o .ifs) kind 12 14) (W .few-ifs);
         }

@@ -6,8 +6,9 @@ use mathlib.Core.Path.{_≡_, refl, sym, _∙_, ap, subst}
 use mathlib.Core.Bool.{Bool, true, false, _&&_, _||_, not}
 use mathlib.Core.List.{List, [], _∷_, _++_}
 use lib.Dec.{eqb}
-use lib.ListN.{length, drop}
-use borrow.Author.Tests.{eqb-false, eq-eqb, ne-eqb}
+use lib.ListN.{length, drop, getD, set, length-set}
+use lib.Seq.{getD-set-same, getD-set-other}
+use borrow.Author.Tests.{eqb-true, eqb-false, eq-eqb, ne-eqb}
 use Rattle.model.specs.Words.{choose}
 use Rattle.grammar.specs.Words.{Word, white, word-length, word-at, cut}
 use Rattle.grammar.specs.Kinds.{kind-of, token-as}
@@ -16,7 +17,7 @@ use Rattle.words.specs.Scanning.{words-from, stretch, Next}
 use Rattle.words.proofs.Turns.{kind-as}
 use Rattle.steps.specs.Opening.{Ifs, with-else, closed, had-else, counted, ifs-after}
 use Rattle.steps.proofs.Simulated.{ifs-length}
-use Rattle.recognised.specs.Watching.{Along, ifs-along, seen-after, begun-at, Watched, HadElse}
+use Rattle.recognised.specs.Watching.{Along, ifs-along, seen-after, begun-at, bit-at, Marks, Noted, Watched, HadElse}
 
 -- the word of a kind that stands from one place to another
 abbrev pub word-of : List ℕ → ℕ → ℕ → ℕ → Word
@@ -57,11 +58,6 @@ pub ifs-one : (b : Ifs) (ws : List Word) (w : Word) → ifs-along b (ws ++ (w �
 unfolding ifs-along
 ifs-one b [] w = refl
 ifs-one b (v ∷ ws) w = ifs-one (ifs-after b (kind-of (v .token))) ws w
-
--- whether the if at level d had its else, the outermost level being 1
-unfoldable pub bit-at : Ifs → ℕ → Bool
-bit-at [] d = false
-bit-at (e ∷ b) d = choose (eqb (suc (length b)) d) (λ _. e) (λ _. bit-at b d)
 
 pub bit-top : (b : Ifs) → bit-at b (length b) ≡ had-else b
 unfolding bit-at had-else
@@ -233,18 +229,49 @@ watch-done text from to d at level seen w l ws a e z = go (w .left ws a z .left)
         past b = let x = b .1 in let y = along-up text (v .end) vs to (b .2) in omega (arith, x, y, l)
 
 -- a word that is not else needs nothing, and where no if is open none had its else
-pub had-other : (text : List ℕ) (from to d kind : ℕ) → (kind ≡ 13 → ⊥) → HadElse text from to d kind false
-unfolding HadElse
-had-other text from to d kind h e = absurd (h e)
+module _ (text : List ℕ) (from to d kind : ℕ) (m : List Bool) where
+  pub had-other : (kind ≡ 13 → ⊥) → HadElse text from to d kind m false
+  unfolding HadElse
+  had-other h e = absurd (h e)
 
-pub had-none : (text : List ℕ) (from to d kind : ℕ) → d ≡ 0 → HadElse text from to d kind false
-unfolding HadElse had-else
-had-none text from to d kind h e ws a l = go (ifs-along [] ws) (l ∙ h)
+  pub had-none : d ≡ 0 → HadElse text from to d kind m false
+  unfolding HadElse had-else
+  had-none h e ws a l k = go (ifs-along [] ws) (l ∙ h)
+    where
+      go : (b : Ifs) → length b ≡ 0 → false ≡ had-else b
+      go [] h = refl
+      go (x ∷ b) h = absurd (let z : suc (length b) ≡ 0 = h in omega arith)
+
+  -- its mark tells, or the words
+  pub had-marked : (d ≡ 0 → ⊥) → d < length m → HadElse text from to d kind m (getD m d false)
+  unfolding HadElse
+  had-marked z lt e ws a l k = k d z lt (omega arith) ∙ (ap (bit-at (ifs-along [] ws)) (sym l) ∙ bit-top (ifs-along [] ws))
+
+  pub had-watched : (r : Bool) → (d ≡ 0 → ⊥) → Watched text from to d r → HadElse text from to d kind m r
+  unfolding HadElse Watched
+  had-watched r z w e ws a l k = w ws a l z
+
+-- a level is marked, or there are more levels than marks
+pub noted-here : (m : List Bool) (level k : ℕ) (s : Bool) → level < length m → s ≡ seen-after (getD m level false) level level k → Noted m level k (set m level s)
+noted-here m level k s l e = record { as-many = length-set m level s; marked = λ d lt. go d (eqb level d) refl }
   where
-    go : (b : Ifs) → length b ≡ 0 → false ≡ had-else b
-    go [] h = refl
-    go (x ∷ b) h = absurd (let z : suc (length b) ≡ 0 = h in omega arith)
+    go : (d : ℕ) (t : Bool) → eqb level d ≡ t → getD (set m level s) d false ≡ seen-after (getD m d false) level d k
+    go d true p =
+        let q : level ≡ d = eqb-true level d p in
+        subst (λ (j : ℕ). getD (set m level s) j false ≡ seen-after (getD m j false) level j k) q (getD-set-same m level s false l ∙ e)
+    go d false p =
+        let n = eqb-false level d p in
+        getD-set-other m level d s false (λ e. n (sym e)) ∙ seen-other (getD m d false) level d k n
 
-pub had-watched : (text : List ℕ) (from to d kind : ℕ) (r : Bool) → (d ≡ 0 → ⊥) → Watched text from to d r → HadElse text from to d kind r
-unfolding HadElse Watched
-had-watched text from to d kind r z w e ws a l = w ws a l z
+pub noted-past : (m : List Bool) (level k : ℕ) → length m ≤ level → Noted m level k m
+noted-past m level k l = record { as-many = refl; marked = λ d lt. seen-other (getD m d false) level d k (λ e. omega arith) }
+
+-- marks that are right stay right
+pub marks-none : (m : List Bool) → Marks m []
+marks-none m d z lt l = absurd (z (let y : d ≤ 0 = l in omega arith))
+
+pub marks-on : (m m′ : List Bool) (b c : Ifs) (k : ℕ) → Marks m b → c ≡ ifs-after b k → Noted m (length c) k m′ → Marks m′ c
+marks-on m m′ b c k h p n d z lt l =
+    let x : d < length m = let q = n .as-many in omega arith in
+    n .marked d x
+    ∙ (ap (λ (v : Ifs). seen-after (getD m d false) (length v) d k) p ∙ (bit-after b k d (getD m d false) z (λ y. h d z x y) (subst (λ (v : Ifs). d ≤ length v) p l) ∙ ap (λ (v : Ifs). bit-at v d) (sym p)))

@@ -1,11 +1,11 @@
 -- Whether the innermost open if has had its else, by watching one level from a place where no if was open.
 -- Assumes nothing.
-use Prim.Native.Nat.{ℕ, suc, _<_}
+use Prim.Native.Nat.{ℕ, suc, _<_, _≤_}
 use mathlib.Core.Path.{_≡_}
-use mathlib.Core.Bool.{Bool, _&&_, _||_, not}
+use mathlib.Core.Bool.{Bool, false, _&&_, _||_, not}
 use mathlib.Core.List.{List, [], _∷_}
 use lib.Dec.{eqb}
-use lib.ListN.{length}
+use lib.ListN.{length, getD}
 use Rattle.model.specs.Words.{choose}
 use Rattle.grammar.specs.Grammar.{then-word, else-word}
 use Rattle.grammar.specs.Words.{Word}
@@ -35,6 +35,21 @@ begun-at from at ifs = choose (eqb ifs 0) (λ _. at) (λ _. from)
 unfoldable pub Watched : List ℕ → ℕ → ℕ → ℕ → Bool → Type 0
 Watched text from to ifs r = (ws : List Word) → Along text from ws to → length (ifs-along [] ws) ≡ ifs → (ifs ≡ 0 → ⊥) → r ≡ had-else (ifs-along [] ws)
 
--- the same, where the next word is else
-unfoldable pub HadElse : List ℕ → ℕ → ℕ → ℕ → ℕ → Bool → Type 0
-HadElse text from to ifs kind r = kind ≡ suc else-word → (ws : List Word) → Along text from ws to → length (ifs-along [] ws) ≡ ifs → r ≡ had-else (ifs-along [] ws)
+-- whether the if at level d had its else, the outermost level being 1
+unfoldable pub bit-at : Ifs → ℕ → Bool
+bit-at [] d = false
+bit-at (e ∷ b) d = choose (eqb (suc (length b)) d) (λ _. e) (λ _. bit-at b d)
+
+-- the levels of the open ifs are marked so, as far as there are marks
+abbrev pub Marks : List Bool → Ifs → Type 0
+Marks m b = (d : ℕ) → (d ≡ 0 → ⊥) → d < length m → d ≤ length b → getD m d false ≡ bit-at b d
+
+-- behind a word of a kind, where so many ifs are open, the marks are these
+pub record Noted (m : List Bool) (level k : ℕ) (m′ : List Bool) : Type 0 where
+  pub as-many : length m′ ≡ length m
+  pub marked : (d : ℕ) → d < length m → getD m′ d false ≡ seen-after (getD m d false) level d k
+
+-- the same, where the next word is else, and the marks are those of the open ifs
+unfoldable pub HadElse : List ℕ → ℕ → ℕ → ℕ → ℕ → List Bool → Bool → Type 0
+HadElse text from to ifs kind m r = kind ≡ suc else-word → (ws : List Word) → Along text from ws to → length (ifs-along [] ws) ≡ ifs → Marks m (ifs-along [] ws)
+    → r ≡ had-else (ifs-along [] ws)

@@ -30,7 +30,7 @@ use Rattle.sizes.specs.declared.Sizes.{Sizes}
 use Rattle.clauses.specs.Bodies.{WritesStates, WritesActions}
 use Rattle.whens.specs.Whens.{WritesWhens}
 use Rattle.statements.specs.Statements.{WritesStatements}
-use Rattle.sheets.specs.Sheets.{body-size, body-sizes}
+use Rattle.sheets.specs.Sheets.{body-size, body-sizes, sheet-size, table-size}
 use Rattle.laying.specs.Laying.{contents-bytes, sets-bytes}
 use Rattle.laying.proofs.SheetParts.{contents-are, sets-are}
 
@@ -103,3 +103,18 @@ module _ (text names commands classes : List ℕ) (t : Text) (n : Sizes) (guards
       let c = class-in l t in
       assembled c w (g ∙ sizes-are c w (length classes / 36) n (sym (length-listed 0 (length classes / 36) (λ i. u32 classes (i * 36 + 32)))) e) p0 p1 (p2 .of-text l t says w) (p3 l t says known w)
       (subst (λ (x : List ℕ). Puts x b4 r4 b5 r5) f p4) (p5 .of-text l t refl says known w) (p6 names t says known w)
+
+-- the sizes counted are those of the sheet and of the table
+pub sheet-size-is : (c : Class) → Within c → (K : ℕ) (n : Sizes) → K ≡ length (c .children) → n ≡ sizes-in c → sheet-size K n ≡ length (sheet-of c)
+unfolding sizes-in
+sheet-size-is c w K n e f =
+    let s : n .states ≡ length (c .states) = ap (λ (x : Sizes). x .states) f in
+    let h : n .whens ≡ length (when-records c) = ap (λ (x : Sizes). x .whens) f in
+    let g : n .guards ≡ length (all-guards c) = ap (λ (x : Sizes). x .guards) f in
+    let a : n .actions ≡ length (action-records c) = ap (λ (x : Sizes). x .actions) f in
+    let t : n .statements ≡ length (statement-records c) = ap (λ (x : Sizes). x .statements) f in
+    omega (arith, laid c .long, w .classes, w .states, w .whens, w .guards, w .actions, w .statements)
+
+pub table-size-is : (c : Class) → Within c → (n : Sizes) → n ≡ sizes-in c → table-size n ≡ 32 * length (c .states)
+unfolding sizes-in
+table-size-is c w n f = let s : n .states ≡ length (c .states) = ap (λ (x : Sizes). x .states) f in omega (arith, w .states)

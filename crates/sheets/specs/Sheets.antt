@@ -1,6 +1,6 @@
 -- The lengths of a sheet's bodies, and what the function that writes a sheet promises.
 -- Assumes nothing.
-use Prim.Native.Nat.{ℕ, _*_, _%_}
+use Prim.Native.Nat.{ℕ, _+_, _*_, _%_}
 use mathlib.Core.Path.{_≡_}
 use mathlib.Core.Bool.{true}
 use mathlib.Core.List.{List, [], _∷_}
@@ -21,10 +21,22 @@ use Rattle.sizes.specs.declared.Sizes.{Sizes}
 abbrev pub body-size : ℕ → ℕ → ℕ
 body-size count bytes = count % 8192 * bytes
 
+-- the bytes of so many state records: how long one is stands here alone
+abbrev pub states-size : ℕ → ℕ
+states-size count = body-size count 4
+
 -- child classes, states, when clauses, guard records, action clauses, statements
 abbrev pub body-sizes : ℕ → Sizes → List ℕ
 body-sizes K n =
-    body-size K 4 ∷ body-size (n .states) 4 ∷ body-size (n .whens) 4 ∷ body-size (n .guards) 8 ∷ body-size (n .actions) 4 ∷ body-size (n .statements) 8 ∷ []
+    body-size K 4 ∷ states-size (n .states) ∷ body-size (n .whens) 4 ∷ body-size (n .guards) 8 ∷ body-size (n .actions) 4 ∷ body-size (n .statements) 8 ∷ []
+
+-- the length of a sheet with these bodies, and of the table beside it
+abbrev pub sheet-size : ℕ → Sizes → ℕ
+sheet-size K n =
+    24 + body-size K 4 + states-size (n .states) + (body-size (n .whens) 4 + body-size (n .actions) 4) + (body-size (n .guards) 8 + body-size (n .statements) 8)
+
+abbrev pub table-size : Sizes → ℕ
+table-size n = body-size (n .states) 32
 
 -- of a text whose names are known and whose class has these sizes and guard records, the sheet stands in the buffer
 abbrev pub WritesSheet : List ℕ → List ℕ → List ℕ → Sizes → List ℕ → List ℕ → List ℕ → ℕ → Type 0

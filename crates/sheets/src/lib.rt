@@ -8,7 +8,7 @@ use sizes::Sizes;
 use statements::write_statements;
 use whens::write_whens;
 ghost use mathlib.Core.Path.{_≡_};
-ghost use Rattle.sheets.specs.Sheets.{body-size, body-sizes, WritesSheet};
+ghost use Rattle.sheets.specs.Sheets.{body-size, states-size, body-sizes, sheet-size, table-size, WritesSheet};
 
 // The bytes of a body of so many records of 4 bytes.
 fn fours(count: usize) -> u16
@@ -24,13 +24,20 @@ fn eights(count: usize) -> u16
     (count % 8192 * 8) as u16
 }
 
+// The bytes of so many state records: how long one is stands here alone.
+fn state_records(count: usize) -> u16
+    ensures { λ r. ⌜ r ≡ states-size count ⌝ }
+{
+    fours(count)
+}
+
 // The lengths of the six bodies.
 fn body_sizes(classes: usize, n: Sizes) -> [u16; 6]
     ensures { λ r. ⌜ r ≡ body-sizes classes n ⌝ }
 {
     [
         fours(classes),
-        fours(n.states),
+        state_records(n.states),
         fours(n.whens),
         eights(n.guards),
         fours(n.actions),
@@ -56,4 +63,20 @@ pub fn write_sheet(
     let e = put_bytes(out, d, guards);
     let f = write_actions(text, commands, out, e);
     write_statements(text, commands, classes, out, f)
+}
+
+// The length of a sheet with so many records in its bodies.
+pub fn sheet_length(classes: usize, n: Sizes) -> usize
+    ensures { λ r. ⌜ r ≡ sheet-size classes n ⌝ }
+{
+    let clauses = n.whens % 8192 * 4 + n.actions % 8192 * 4;
+    let records = n.guards % 8192 * 8 + n.statements % 8192 * 8;
+    24 + classes % 8192 * 4 + (state_records(n.states) as usize) + clauses + records
+}
+
+// The length of the table of so many own states.
+pub fn table_length(n: Sizes) -> usize
+    ensures { λ r. ⌜ r ≡ table-size n ⌝ }
+{
+    n.states % 8192 * 32
 }

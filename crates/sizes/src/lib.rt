@@ -1,4 +1,14 @@
 // How large the sheet of a text is, counted by its words: what the limits are asked of, before anything is written.
+use kinds::ACTION;
+use kinds::AND;
+use kinds::DO;
+use kinds::END;
+use kinds::ENDIF;
+use kinds::IF;
+use kinds::MOVE_TO;
+use kinds::NOT_IN;
+use kinds::STATE;
+use kinds::WHEN;
 use words::next_word;
 ghost use mathlib.Core.Path.{_≡_};
 ghost use Prim.Native.Nat.{_<_, max};
@@ -14,27 +24,6 @@ pub struct Sizes {
     pub statements: usize,
     pub deepest: usize,
 }
-
-// The kinds of the words that are counted.
-pub const STATE: u8 = 2;
-
-pub const ACTION: u8 = 3;
-
-pub const WHEN: u8 = 7;
-
-pub const MOVE_TO: u8 = 8;
-
-pub const DO: u8 = 9;
-
-pub const IF: u8 = 11;
-
-const ENDIF: u8 = 14;
-
-const AND: u8 = 15;
-
-const NOT_IN_STATE: u8 = 19;
-
-pub const END: u8 = 26;
 
 // One more, where the test holds.
 pub fn tick(yes: bool, n: usize) -> usize
@@ -76,7 +65,7 @@ fn raised(yes: bool, deepest: usize, ifs: usize) -> usize
 fn of_guard(kind: u8) -> bool
     ensures { λ r. ⌜ r ≡ of-guard kind ⌝ }
 {
-    (AND <= kind) & (kind <= NOT_IN_STATE)
+    (AND <= kind) & (kind <= NOT_IN)
 }
 
 // The word is a statement's first, behind an action: its state.

@@ -3,3 +3,4 @@ pub mod StatementLaws
 pub mod LookingLaws
 pub mod PuttingLaws
 pub mod WritingLaws
+pub mod Worked

@@ -11,37 +11,20 @@ use borrow.Author.Tests.{ne-eqb, eq-eqb, eqb-true}
 use Rattle.model.specs.Words.{choose}
 use Rattle.model.proofs.Words.{clash, true-not-false, or-first, or-second, not-not-true, choose-case}
 use Rattle.grammar.specs.Grammar.{Token, fixed, end-word}
-use Rattle.grammar.specs.Words.{position}
 use Rattle.grammar.specs.Kinds.{kind-of, token-as}
-use Rattle.naming.specs.NameLists.{padded, records-in, number-in, listed-in}
+use Rattle.naming.specs.NameLists.{padded, records-in}
 use Rattle.words.specs.Scanning.{tokens-from, stretch, end-kind, Next}
 use Rattle.words.proofs.Turns.{turn, last, kind-as}
 use Rattle.lists.specs.Lent.{found-from}
 use Rattle.lists.specs.declared.Found.{Found}
-use Rattle.lists.specs.declared.Found.the-variants.{At, Nowhere}
-use Rattle.statements.specs.Statements.{is-statement, count-after, depth-after, ends-part, PartAhead, part-ahead, else-size, listed-number, number-of}
+use Rattle.whens.specs.Ahead.{found-number}
+use Rattle.statements.specs.Statements.{is-statement, count-after, depth-after, ends-part, PartAhead, part-ahead, else-size, number-of}
 use Rattle.statements.specs.Parts.{else-at, PartEnds}
 
--- the number that was found, or 0
-module _ (size : ℕ) (list word : List ℕ) (found : Found) (f : found ≡ found-from 0 (records-in size list) (padded word)) where
-  abbrev ns : List (List ℕ)
-  ns = records-in size list
-
-  pub number-found : (i : ℕ) → found ≡ At i → i ≡ number-of size list word
-  unfolding found-from listed-number listed-in number-in
-  number-found i e = go (ltb (position ns (padded word)) (length ns)) (sym f ∙ e)
-    where
-      go : (b : Bool) → choose b (λ _. At (0 + position ns (padded word))) (λ _. Nowhere) ≡ At i → i ≡ choose b (λ _. position ns (padded word)) (λ _. 0)
-      go true z = let y : 0 + position ns (padded word) ≡ i = cc in omega arith
-      go false z = absurd (clash (cc))
-
-  pub number-nowhere : found ≡ Nowhere → 0 ≡ number-of size list word
-  unfolding found-from listed-number listed-in number-in
-  number-nowhere e = go (ltb (position ns (padded word)) (length ns)) (sym f ∙ e)
-    where
-      go : (b : Bool) → choose b (λ _. At (0 + position ns (padded word))) (λ _. Nowhere) ≡ Nowhere → 0 ≡ choose b (λ _. position ns (padded word)) (λ _. 0)
-      go true z = absurd (clash (cc))
-      go false z = refl
+-- the number in a list
+pub number-told : (size : ℕ) (list word : List ℕ) (f : Found) (r : ℕ) → f ≡ found-from 0 (records-in size list) (padded word) → r ≡ found-number f → r ≡ number-of size list word
+unfolding number-of
+number-told size list word f r e h = h ∙ ap found-number e
 
 -- a statement more, or none
 pub count-more : (n k : ℕ) → is-statement k ≡ true → n + 1 ≡ count-after n k

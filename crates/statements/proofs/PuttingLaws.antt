@@ -8,14 +8,15 @@ use lib.Dec.{eqb}
 use lib.ListN.{drop}
 use borrow.Author.Tests.{ne-eqb, eq-eqb}
 use Rattle.grammar.specs.Grammar.{Name, Token}
-use Rattle.grammar.specs.Words.{position, tokens}
+use Rattle.grammar.specs.Words.{tokens}
 use Rattle.grammar.specs.Kinds.{kind-of, bytes-of, token-as}
 use Rattle.words.specs.Scanning.{tokens-from, stretch, end-kind, Next}
 use Rattle.words.proofs.Turns.{turn, last, kind-as}
 use Rattle.encoding.specs.Records.{Four, four, eight, zeros, fours, eights}
 use Rattle.pen.specs.Writing.{Puts}
 use Rattle.pen.proofs.Puts.{puts-on}
-use Rattle.whens.specs.Ahead.{first-bytes, names-ahead, low4, low8}
+use Rattle.own.specs.Ahead.{first-bytes}
+use Rattle.whens.specs.Ahead.{low4, low8}
 use Rattle.whens.specs.Naming.{NameAhead}
 use Rattle.whens.specs.Whens.{own-number}
 use Rattle.whens.proofs.AheadLaws.{front}
@@ -69,9 +70,8 @@ module _ (text : List ℕ) (class : Name → ℕ) (at k start end : ℕ) (N : Ne
 
 -- the records of the three statements
 module _ (text : List ℕ) (here : ℕ) (before after : List ℕ) (at r : ℕ) where
-  pub move-put : (start end own : ℕ) → NameAhead text here start end → own ≡ position (names-ahead 2 26 (tokens-from text 0)) (stretch text start end)
+  pub move-put : (start end own : ℕ) → NameAhead text here start end → own ≡ own-number text (stretch text start end)
       → Puts (eights (low8 (eight (four 1 own 0 0) zeros) ∷ [])) before at after r → Puts (eights (move-ahead (own-number text) (tokens-from text here) ∷ [])) before at after r
-  unfolding own-number
   move-put start end own A e p = rw (← (A .bytes), ← e) p
 
   pub do-put : (commands classes : List ℕ) (start end command pattern : ℕ) → NameAhead text here start end → command ≡ number-of 32 commands (stretch text start end)

@@ -24,7 +24,8 @@ use Rattle.encoding.specs.Within.{Within}
 use Rattle.encoding.proofs.Small.{Small8}
 use Rattle.encoding.proofs.Inside.{states-inside}
 use Rattle.encoding.proofs.SheetBytes.{states-small}
-use Rattle.whens.specs.Ahead.{guards-after, first-bytes, low4, low8}
+use Rattle.own.specs.Ahead.{first-bytes}
+use Rattle.whens.specs.Ahead.{guards-after, low4, low8}
 use Rattle.whens.proofs.Passing.{other-kind, in-guard, in-clause, in-when, Passes, kin-pass, guard-pass, when-pass, part-size, part-sized, list-words, state-listed, text-listed, list-pass, list-gives, placed-map}
 use Rattle.whens.proofs.WhenLaws.{Finds, low-bytes}
 use Rattle.statements.specs.Statements.{is-statement, PartAhead, part-ahead, else-size, on-after, kin-ahead, statement-ahead, statements-from}

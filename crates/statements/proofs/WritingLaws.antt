@@ -10,13 +10,14 @@ use lib.ListN.{length}
 use lib.Seq.{length-sets}
 use Rattle.model.specs.Words.{choose, kept}
 use Rattle.grammar.specs.Grammar.{fixed, end-word, Name, Text}
+use Rattle.grammar.specs.Words.{position}
 use Rattle.grammar.specs.Kinds.{kind-of}
 use Rattle.grammar.specs.Reading.{Says}
-use Rattle.naming.specs.NameLists.{records-in, number-in, listed-in}
+use Rattle.naming.specs.NameLists.{padded, records-in, number-in, listed-in}
 use Rattle.naming.specs.Naming.{class-in}
 use Rattle.words.specs.Scanning.{tokens-from, stretch, end-kind, Next}
 use Rattle.words.proofs.Turns.{turn, last, kind-as}
-use Rattle.lists.specs.Lent.{lent}
+use Rattle.lists.specs.Lent.{lent, found-from}
 use Rattle.encoding.specs.Records.{Eight, eights}
 use Rattle.encoding.specs.Encoding.{statement-records}
 use Rattle.pen.specs.Writing.{last-place, Puts}
@@ -24,13 +25,13 @@ use Rattle.pen.proofs.Puts.{Writing, writing-more, writing-end}
 use Rattle.whens.specs.Ahead.{guards-after}
 use Rattle.whens.specs.Whens.{own-number}
 use Rattle.whens.proofs.WritingLaws.{all-words, own-found, guards-up}
-use Rattle.statements.specs.Statements.{is-statement, on-after, statements-from, listed-number, number-of, statement-at, statements-left, WritesStatements}
+use Rattle.statements.specs.Statements.{is-statement, on-after, statements-from, number-of, statement-at, statements-left, WritesStatements}
 use Rattle.statements.proofs.StatementLaws.{FindsIn, text-statements}
 
 -- a listed name has its number
 listed-found : (size : ℕ) (list : List ℕ) → FindsIn (number-of size list) (records-in size list)
-unfolding listed-number
-listed-found size list n e = rw e
+unfolding number-of found-from listed-in number-in
+listed-found size list n e = rw e (let z : 0 + position (records-in size list) (padded n) ≡ position (records-in size list) (padded n) = omega arith in z)
 
 module _ (text commands classes : List ℕ) where
   abbrev left : Bool → ℕ → ℕ → List ℕ
@@ -60,7 +61,7 @@ module _ (text commands classes : List ℕ) where
         let P : Puts (left false 0 0) before at out end = writing-end (T .writing) e a (T .fits) in
         let W : statements-left text commands classes false 0 0 ≡ statement-records (class-in (lent names commands classes) t) =
         ap (statements-from (own-number text) (number-of 32 commands) (number-of 36 classes) false 0) (all-words text t s)
-        ∙ text-statements (lent names commands classes) t (own-number text) (number-of 32 commands) (number-of 36 classes) (own-found text (lent names commands classes) t s)
+        ∙ text-statements (lent names commands classes) t (own-number text) (number-of 32 commands) (number-of 36 classes) (own-found text t s)
         (listed-found 32 commands) (listed-found 36 classes) known within in
         rw W at P
 

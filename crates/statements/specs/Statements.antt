@@ -10,7 +10,7 @@ use Rattle.model.specs.Words.{choose, kept}
 use Rattle.grammar.specs.Grammar.{Token, Name, Text}
 use Rattle.grammar.specs.Kinds.{kind-of, bytes-of}
 use Rattle.grammar.specs.Reading.{Says}
-use Rattle.naming.specs.NameLists.{records-in, number-in, listed-in}
+use Rattle.naming.specs.NameLists.{records-in, padded}
 use Rattle.naming.specs.Naming.{class-in}
 use Rattle.naming.specs.Known.{text-known}
 use Rattle.encoding.specs.Records.{Eight, four, eight, zeros, eights}
@@ -19,8 +19,9 @@ use Rattle.encoding.specs.Within.{Within}
 use Rattle.pen.specs.Writing.{Puts}
 use Rattle.words.specs.Scanning.{tokens-from}
 use Rattle.lists.specs.Lent.{lent}
+use Rattle.own.specs.Ahead.{first-bytes}
 use Rattle.whens.specs.Whens.{own-number}
-use Rattle.whens.specs.Ahead.{guards-after, first-bytes, low8}
+use Rattle.whens.specs.Ahead.{guards-after, number-among, low8}
 
 -- move_to, do, if: each is the first word of a statement, behind an action:
 abbrev pub is-statement : ℕ → Bool
@@ -88,13 +89,9 @@ module _ (own command class : Name → ℕ) where
   statements-from on n (w ∷ ws) =
       kept (on && is-statement (kind-of w)) (statement-ahead n (kind-of w) ws) (statements-from (on-after on (kind-of w)) (guards-after n (kind-of w)) ws)
 
--- the number of a name in a list; 0 where it has none
-unfoldable pub listed-number : List (List ℕ) → Name → ℕ
-listed-number records n = choose (listed-in records n) (λ _. number-in records n) (λ _. 0)
-
--- the same in the bytes of a list
-abbrev pub number-of : ℕ → List ℕ → Name → ℕ
-number-of size list = listed-number (records-in size list)
+-- the number of a name in a list of records of that many bytes; 0 where it has none
+unfoldable pub number-of : ℕ → List ℕ → Name → ℕ
+number-of size list n = number-among (records-in size list) (padded n)
 
 module _ (text commands classes : List ℕ) where
   -- the statement of a first word of kind k whose words behind it stand at a place, and those of the words from a place on

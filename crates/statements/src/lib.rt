@@ -1,9 +1,11 @@
 // The body of statements: one record for each do, move_to and if behind an action:, by the words ahead of it.
-use lists::Found;
 use lists::number_in;
+use own::Holding;
+use own::hold;
+use whens::found_number;
 use whens::guards_after;
 use whens::name_ahead;
-use whens::number_ahead;
+use whens::own_number;
 use whens::put_record;
 use words::next_word;
 ghost use mathlib.Core.Path.{_≡_};
@@ -11,6 +13,7 @@ ghost use mathlib.Core.List.{[], _∷_};
 ghost use Prim.Native.Nat.{_/_, _<_, _≤_};
 ghost use lib.ListN.{drop};
 ghost use Rattle.words.specs.Scanning.{tokens-from};
+ghost use Rattle.own.specs.Held.{Filled};
 ghost use Rattle.encoding.specs.Records.{four, eight, zeros, eights};
 ghost use Rattle.pen.specs.Writing.{Puts};
 ghost use Rattle.whens.specs.Ahead.{low8};
@@ -23,11 +26,7 @@ fn listed_number(list: &[u8], size: usize, word: &[u8]) -> usize
     requires { ⌜ 32 ≤ size ⌝ }
     ensures { λ r. ⌜ r ≡ number-of size (now (list .entry)) (now (word .entry)) ⌝ }
 {
-    let found = number_in(list, size, word);
-    match found {
-        Found::At(i) => i,
-        Found::Nowhere => 0,
-    }
+    found_number(number_in(list, size, word))
 }
 
 // The number of statements before the next word, where n stand before a word of that kind.
@@ -137,14 +136,22 @@ fn put_short(out: &mut [u8], at: usize, a: usize, b: usize, c: usize) -> usize
 }
 
 // The record of a move_to whose name stands at a place.
-fn put_move(text: &[u8], here: usize, out: &mut [u8], at: usize) -> usize
+fn put_move(
+    text: &[u8],
+    table: &[usize],
+    own: Holding,
+    here: usize,
+    out: &mut [u8],
+    at: usize,
+) -> usize
+    requires { ⌜ Filled (now text) (now table) 2 26 0 (own .count) (own .rest) ⌝ }
     ensures { λ r. ⌜ Puts (eights (move-ahead (own-number (now (text .entry))) (tokens-from (now (text .entry)) here) ∷ [])) (now (out .entry)) at (now (out .exit)) r ⌝ }
 {
     let name = name_ahead(text, here);
     let start = name.start;
     let end = name.end;
-    let own = number_ahead(text, 0, 2, 26, &text[start..end]);
-    put_short(out, at, 1, own, 0)
+    let state = own_number(text, table, own, &text[start..end]);
+    put_short(out, at, 1, state, 0)
 }
 
 // The record of a do whose command stands at a place.
@@ -182,16 +189,19 @@ fn put_statement(
     text: &[u8],
     commands: &[u8],
     classes: &[u8],
+    table: &[usize],
+    own: Holding,
     kind: u8,
     here: usize,
     n: usize,
     out: &mut [u8],
     at: usize,
 ) -> usize
+    requires { ⌜ Filled (now text) (now table) 2 26 0 (own .count) (own .rest) ⌝ }
     ensures { λ r. ⌜ Puts (eights (statement-at (now (text .entry)) (now (commands .entry)) (now (classes .entry)) here n kind ∷ [])) (now (out .entry)) at (now (out .exit)) r ⌝ }
 {
     if kind == 8 {
-        return put_move(text, here, out, at);
+        return put_move(text, table, own, here, out, at);
     }
     if kind == 9 {
         return put_do(text, commands, classes, here, out, at);
@@ -222,6 +232,8 @@ pub fn write_statements(
 ) -> usize
     ensures { λ r. ⌜ WritesStatements (now (text .entry)) (now (commands .entry)) (now (classes .entry)) (now (out .entry)) at (now (out .exit)) r ⌝ }
 {
+    let mut table = [0usize; 64];
+    let own = hold(text, 0, 2, 26, &mut table);
     let mut here = 0;
     let mut on = false;
     let mut n = 0;
@@ -238,7 +250,18 @@ pub fn write_statements(
         n = guards_after(n, k);
         on = on_after(on, k);
         if first {
-            end = put_statement(text, commands, classes, k, here, before, out, end);
+            end = put_statement(
+                text,
+                commands,
+                classes,
+                &table,
+                own,
+                k,
+                here,
+                before,
+                out,
+                end,
+            );
         }
     }
 }

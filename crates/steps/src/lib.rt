@@ -1,4 +1,31 @@
 // The machine that reads a text word by word, by numbers: what is wanted next, and what is open.
+use kinds::ACTION;
+use kinds::ALL;
+use kinds::AND;
+use kinds::ANY;
+use kinds::CHILDREN;
+use kinds::CLASS;
+use kinds::CLOSE;
+use kinds::COMMA;
+use kinds::DO;
+use kinds::ELSE;
+use kinds::END;
+use kinds::ENDIF;
+use kinds::IF;
+use kinds::IN;
+use kinds::LEFT;
+use kinds::MOVE_TO;
+use kinds::NAME;
+use kinds::NOT;
+use kinds::NOT_IN;
+use kinds::OPEN;
+use kinds::OR;
+use kinds::RIGHT;
+use kinds::STATE;
+use kinds::STAY;
+use kinds::THEN;
+use kinds::TOP;
+use kinds::WHEN;
 ghost use Prim.Native.Nat.{_<_};
 ghost use mathlib.Core.Path.{_≡_};
 ghost use lib.Dec.{eqb};
@@ -6,61 +33,6 @@ ghost use Rattle.steps.specs.declared.Go.the-variants.{Stop};
 ghost use Rattle.steps.specs.Turns.{action-turns, when-turns, operand-turns, closing-turns, operator-turns, ending-turns, statement-turns, turns};
 ghost use Rattle.steps.specs.Going.{first-of, going};
 ghost use Rattle.steps.specs.Opening.{counted, open-after};
-
-// The kinds of words.
-pub const NAME: u8 = 0;
-
-pub const CLASS: u8 = 1;
-
-pub const STATE: u8 = 2;
-
-pub const ACTION: u8 = 3;
-
-pub const TOP: u8 = 4;
-
-pub const ANY: u8 = 5;
-
-pub const ALL: u8 = 6;
-
-pub const WHEN: u8 = 7;
-
-pub const MOVE_TO: u8 = 8;
-
-pub const DO: u8 = 9;
-
-pub const STAY: u8 = 10;
-
-pub const IF: u8 = 11;
-
-pub const THEN: u8 = 12;
-
-pub const ELSE: u8 = 13;
-
-pub const ENDIF: u8 = 14;
-
-pub const AND: u8 = 15;
-
-pub const OR: u8 = 16;
-
-pub const NOT: u8 = 17;
-
-pub const IN: u8 = 18;
-
-pub const NOT_IN: u8 = 19;
-
-pub const CHILDREN: u8 = 20;
-
-pub const OPEN: u8 = 21;
-
-pub const CLOSE: u8 = 22;
-
-pub const LEFT: u8 = 23;
-
-pub const RIGHT: u8 = 24;
-
-pub const COMMA: u8 = 25;
-
-pub const END: u8 = 26;
 
 // What was read last, and so what is wanted next.
 pub enum Want {

@@ -11,14 +11,18 @@ use lib.ListN.{length}
 use borrow.Author.Tests.{ne-eqb, eq-eqb}
 use Rattle.model.specs.Words.{choose, kept}
 use Rattle.model.proofs.Words.{true-not-false, or-second}
-use Rattle.grammar.specs.Grammar.{Token, Referrer, move-to, run, stay}
+use Rattle.grammar.specs.Grammar.{Token, Name, Referrer, move-to, run, stay}
 use Rattle.grammar.specs.Words.{same, position, tokens}
 use Rattle.grammar.specs.Kinds.{kind-of, bytes-of, token-as}
 use Rattle.words.specs.Scanning.{words-from, tokens-from, stretch, end-kind, behind, Next}
 use Rattle.words.proofs.Turns.{turn, kind-as, bytes-as}
 use Rattle.encoding.specs.Records.{four, fours}
 use Rattle.pen.specs.Writing.{Puts}
-use Rattle.whens.specs.Ahead.{guards-after, first-bytes, names-ahead, low4}
+use Rattle.lists.specs.Lent.{found-from}
+use Rattle.lists.specs.declared.Found.{Found}
+use Rattle.own.specs.Ahead.{first-bytes, names-ahead, names-from}
+use Rattle.own.specs.Held.{Filled, all-names}
+use Rattle.whens.specs.Ahead.{guards-after, found-number, number-among, low4}
 use Rattle.whens.specs.Naming.{NameAhead, referrer-as, Stands, Refers}
 use Rattle.whens.specs.Whens.{referrer-ahead, own-number, when-ahead, when-at}
 use Rattle.whens.specs.declared.Stretch.{Stretch}
@@ -72,69 +76,14 @@ less-ahead text here k start end N on =
     let i = N .inside on in
     omega arith
 
--- looking for the number of a name: n are passed
-pub record Looking (text word : List ℕ) (kind stop at n here : ℕ) : Type 0 where
-  pub few : n ≤ here
-  pub left : position (names-ahead kind stop (tokens-from text at)) word ≡ n + position (names-ahead kind stop (tokens-from text here)) word
+-- the number of an own state, of an action
+pub own-told : (text table : List ℕ) (count rest : ℕ) (word : List ℕ) (f : Found) (r : ℕ) → Filled text table 2 26 0 count rest
+    → f ≡ found-from 0 (all-names text table count 2 26 rest) word → r ≡ found-number f → r ≡ own-number text word
+unfolding own-number
+own-told text table count rest word f r F e h = h ∙ ap found-number (e ∙ ap (λ (ns : List Name). found-from 0 ns word) (F .filling .names))
 
-pub look-first : (text word : List ℕ) (kind stop at : ℕ) → Looking text word kind stop at 0 at
-look-first text word kind stop at = record { few = omega arith; left = omega arith }
-
-module _ (text word : List ℕ) (kind stop at n here k start end : ℕ) (L : Looking text word kind stop at n here) (N : Next text here k start end) where
-  pub look-stop : (eqb k stop || eqb k 26) ≡ true → n ≡ position (names-ahead kind stop (tokens-from text at)) word
-  unfolding names-ahead position
-  look-stop t =
-      let e : names-ahead kind stop (tokens-from text here) ≡ [] = rw (front text here k start end N, kind-as k (stretch text start end), t) in
-      let z : position (names-ahead kind stop (tokens-from text here)) word ≡ 0 = ap (λ (ns : List (List ℕ)). position ns word) e in
-      let l = L .left in
-      omega arith
-
-  module _ (t : (eqb k stop || eqb k 26) ≡ false) where
-    on : k ≡ end-kind → ⊥
-    on = not-end (eqb k stop) k t
-
-    pub look-less : length text - end < length text - here
-    look-less = less-ahead text here k start end N on
-
-    pub look-room : n < length text
-    look-room =
-        let m = N .moves on in
-        let o = N .onward in
-        let i = N .inside on in
-        let f = L .few in
-        omega arith
-
-    names-left : names-ahead kind stop (tokens-from text here) ≡ kept (eqb k kind) (first-bytes (tokens-from text end)) (names-ahead kind stop (tokens-from text end))
-    unfolding names-ahead
-    names-left = rw (turn text here k start end N on, kind-as k (stretch text start end), t)
-
-    pub look-pass : (k ≡ kind → ⊥) → Looking text word kind stop at n end
-    look-pass h =
-        let m = N .moves on in
-        let o = N .onward in
-        let f = L .few in
-        record { few = omega arith; left = L .left ∙ ap (λ (ns : List (List ℕ)). n + position ns word) (names-left ∙ rw (ne-eqb k kind h)) }
-
-    module _ (h : k ≡ kind) (from to : ℕ) (A : NameAhead text end from to) (r : Bool) (s : r ≡ same (stretch text from to) word) where
-      named : position (names-ahead kind stop (tokens-from text here)) word ≡ choose r (λ _. 0) (λ _. suc (position (names-ahead kind stop (tokens-from text end)) word))
-      unfolding position
-      named =
-          rw (names-left, eq-eqb k kind h, ← (A .bytes), ← s)
-
-      pub look-past : r ≡ false → Looking text word kind stop at (n + 1) end
-      look-past e =
-          let m = N .moves on in
-          let o = N .onward in
-          let f = L .few in
-          let l = L .left in
-          let z : position (names-ahead kind stop (tokens-from text here)) word ≡ suc (position (names-ahead kind stop (tokens-from text end)) word) = named ∙ rw e in
-          record { few = omega arith; left = omega arith }
-
-      pub look-found : r ≡ true → n ≡ position (names-ahead kind stop (tokens-from text at)) word
-      look-found e =
-          let l = L .left in
-          let z : position (names-ahead kind stop (tokens-from text here)) word ≡ 0 = named ∙ rw e in
-          omega arith
+pub action-told : (ns : List Name) (word : List ℕ) (f : Found) (r : ℕ) → f ≡ found-from 0 ns word → r ≡ found-number f → r ≡ number-among ns word
+action-told ns word f r e h = h ∙ ap found-number e
 
 -- a guard record more, or none
 pub one-more : (n k : ℕ) → (leb 15 k && leb k 19) ≡ true → n + 1 ≡ guards-after n k
@@ -196,12 +145,12 @@ module _ (text : List ℕ) (here n : ℕ) (to : Refer) (R : Refers text here to)
     abbrev Due : Type 0
     Due = Puts (fours (when-at text here n ∷ [])) before at after end
 
-    pub put-move : (nm : Stretch) → to ≡ MoveTo nm → (own : ℕ) → own ≡ position (names-ahead 2 26 (tokens-from text 0)) (stretch text (nm .start) (nm .end)) → Written 0 own → Due
-    unfolding when-ahead own-number
+    pub put-move : (nm : Stretch) → to ≡ MoveTo nm → (own : ℕ) → own ≡ own-number text (stretch text (nm .start) (nm .end)) → Written 0 own → Due
+    unfolding when-ahead
     put-move nm e own h p = rw (ahead (move-to (stretch text (nm .start) (nm .end))) (ap (referrer-as text) e), ← h) p
 
-    pub put-do : (nm : Stretch) → to ≡ Do nm → (a : ℕ) → a ≡ position (names-ahead 3 2 (tokens-from text here)) (stretch text (nm .start) (nm .end)) → Written 1 a → Due
-    unfolding when-ahead
+    pub put-do : (nm : Stretch) → to ≡ Do nm → (a : ℕ) → a ≡ number-among (names-from text 3 2 here) (stretch text (nm .start) (nm .end)) → Written 1 a → Due
+    unfolding when-ahead names-from
     put-do nm e a h p = rw (ahead (run (stretch text (nm .start) (nm .end))) (ap (referrer-as text) e), ← h) p
 
     pub put-stay : to ≡ Stay → Written 2 0 → Due

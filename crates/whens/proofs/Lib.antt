@@ -2,3 +2,4 @@ pub mod Passing
 pub mod WhenLaws
 pub mod AheadLaws
 pub mod WritingLaws
+pub mod Worked

@@ -24,7 +24,8 @@ use Rattle.encoding.specs.Within.{Within}
 use Rattle.encoding.proofs.Small.{Small4}
 use Rattle.encoding.proofs.Inside.{states-inside}
 use Rattle.encoding.proofs.SheetBytes.{states-small}
-use Rattle.whens.specs.Ahead.{guards-after, first-bytes, names-ahead, low4}
+use Rattle.own.specs.Ahead.{first-bytes, names-ahead}
+use Rattle.whens.specs.Ahead.{guards-after, low4}
 use Rattle.whens.specs.Whens.{referrer-ahead, referrer-number, target-number, when-ahead, whens-from}
 use Rattle.whens.proofs.Passing.{other-kind, in-guard, in-clause, in-when, in-part, Passes, guard-pass, clause-pass, when-pass, part-size, part-sized, part-pass, list-words, state-listed, text-listed, list-pass, list-gives, placed-map}
 
@@ -56,11 +57,11 @@ referrer-found l g r rest = guard-pass l (λ n ws. referrer-ahead ws) referrer-p
 -- the actions ahead
 actions-pass-when : Passes in-when (λ n ws. names-ahead 3 2 ws)
 unfolding names-ahead
-actions-pass-when n w ws e = rw (other-kind in-when 2 (kind-of w) refl e, other-kind in-when 26 (kind-of w) refl e, other-kind in-when 3 (kind-of w) refl e)
+actions-pass-when n w ws e = rw (other-kind in-when 2 (kind-of w) refl e, other-kind in-when 3 (kind-of w) refl e)
 
 actions-pass-part : Passes in-part (λ n ws. names-ahead 3 2 ws)
 unfolding names-ahead
-actions-pass-part n w ws e = rw (other-kind in-part 2 (kind-of w) refl e, other-kind in-part 26 (kind-of w) refl e, other-kind in-part 3 (kind-of w) refl e)
+actions-pass-part n w ws e = rw (other-kind in-part 2 (kind-of w) refl e, other-kind in-part 3 (kind-of w) refl e)
 
 actions-there : (l : Lists) (xs : List Action) (rest : List Token) → names-ahead 3 2 rest ≡ [] → names-ahead 3 2 (list-words action-words xs rest) ≡ map (λ a. a .command) xs
 unfolding list-words action-words names-ahead kind-of first-bytes bytes-of
@@ -137,32 +138,6 @@ module _ (l : Lists) (own : List Name) (number : Name → ℕ) (among-number : L
       ∙ (G .1
       ∙ (ap (λ (z : List Four). z ++ from m tail) (placed-map when-guards (λ w j. when-record w j ∷ []) low4 (map (when-of l own actions) ws) n)
       ∙ ap (λ (z : List Four). low-whens (state-of l own s) n ++ z) (P ∙ ap (λ (j : ℕ). from j rest) (omega arith))))
-
--- the own states ahead
-own-pass : (P : ℕ → Bool) → P 2 ≡ false → P 26 ≡ false → Passes P (λ n ws. names-ahead 2 26 ws)
-unfolding names-ahead
-own-pass P a b n w ws e = rw (other-kind P 2 (kind-of w) a e, other-kind P 26 (kind-of w) b e)
-
-own-action : (l : Lists) (x : Action) (n : ℕ) (rest : List Token) → names-ahead 2 26 (action-words x rest) ≡ names-ahead 2 26 rest
-unfolding action-words names-ahead kind-of
-own-action l x n rest = part-pass l (λ n ws. names-ahead 2 26 ws) (own-pass in-part refl refl) (x .body) 0 rest
-
-states-there : (l : Lists) (ss : List State) (rest : List Token) → names-ahead 2 26 rest ≡ [] → names-ahead 2 26 (list-words state-words ss rest) ≡ map (λ s. s .own) ss
-unfolding list-words names-ahead kind-of first-bytes bytes-of
-states-there l [] rest e = e
-states-there l (s ∷ ss) rest e =
-    let own : List Token → List Name = names-ahead 2 26 in
-    let tail : List Token = list-words state-words ss rest in
-    let ws = in-order (s .whens) [] in
-    let as′ = in-order (s .actions) [] in
-    ap own (state-listed s tail)
-    ∙ ap (λ (ns : List Name). s .own ∷ ns)
-    (list-pass (λ n xs. own xs) when-words (when-of l [] []) when-guards (when-pass l (λ n xs. own xs) (own-pass in-when refl refl)) ws 0 (list-words action-words as′ tail)
-    ∙ (list-pass (λ n xs. own xs) action-words (action-of l []) action-guards (own-action l) as′ 0 tail ∙ states-there l ss rest e))
-
-pub own-ahead : (l : Lists) (t : Text) → names-ahead 2 26 (text-words t) ≡ own-names t
-unfolding names-ahead kind-of own-names
-own-ahead l t = ap (names-ahead 2 26) (text-listed t) ∙ states-there l (all-states t) (fixed end-word ∷ []) refl
 
 -- behind a state come others, or the end
 next-state : (s : State) (rest : List Token) → names-ahead 3 2 (state-words s rest) ≡ []

@@ -16,25 +16,33 @@ use Rattle.grammar.specs.Kinds.{kind-of}
 use Rattle.grammar.specs.Reading.{Says}
 use Rattle.naming.specs.NameLists.{Lists}
 use Rattle.naming.specs.Naming.{own-names, class-in}
+use Rattle.naming.specs.Known.{among}
 use Rattle.words.specs.Scanning.{words-from, tokens-from, stretch, end-kind, Next}
 use Rattle.words.proofs.Turns.{turn, last, kind-as}
+use Rattle.lists.specs.Lent.{found-from}
+use Rattle.own.proofs.Trees.{own-from}
 use Rattle.encoding.specs.Records.{Four, fours}
 use Rattle.encoding.specs.Encoding.{when-records}
 use Rattle.pen.specs.Writing.{last-place, Puts}
 use Rattle.pen.proofs.Puts.{Writing, writing-more, writing-end}
-use Rattle.whens.specs.Ahead.{guard-kind, guards-after, names-ahead}
+use Rattle.whens.specs.Ahead.{guard-kind, guards-after, number-among}
 use Rattle.whens.specs.Whens.{whens-from, own-number, when-at, whens-left, WritesWhens}
-use Rattle.whens.proofs.WhenLaws.{Finds, own-ahead, text-whens}
+use Rattle.whens.proofs.WhenLaws.{Finds, text-whens}
 
 -- the words of a text that says a tree
 pub all-words : (text : List ℕ) (t : Text) → Says text t → tokens-from text 0 ≡ text-words t
 unfolding tokens-from words-from words
 all-words text t s = sym s
 
+-- a name that is among others has its number
+pub among-found : (ns : List Name) → Finds (number-among ns) ns
+unfolding found-from among
+among-found ns n k = rw k (let z : 0 + position ns n ≡ position ns n = omega arith in z)
+
 -- own states have their numbers
-pub own-found : (text : List ℕ) (l : Lists) (t : Text) → Says text t → Finds (own-number text) (own-names t)
+pub own-found : (text : List ℕ) (t : Text) → Says text t → Finds (own-number text) (own-names t)
 unfolding own-number
-own-found text l t s n k = ap (λ (ws : List Token). position (names-ahead 2 26 ws) n) (all-words text t s) ∙ ap (λ (ns : List Name). position ns n) (own-ahead l t)
+own-found text t s n k = rw (own-from text t s) (among-found (own-names t) n k)
 
 pub guards-up : (n k : ℕ) → guards-after n k ≤ n + 1
 unfolding guards-after
@@ -57,7 +65,7 @@ module _ (text before : List ℕ) (at : ℕ) (out : List ℕ) (here n end k star
       let e : fours (whens-left text here n) ≡ [] = rw (last text here k start to N h) in
       let P : Puts (fours (whens-left text 0 0)) before at out end = writing-end (T .writing) e a (T .fits) in
       let W : whens-left text 0 0 ≡ when-records (class-in l t) =
-      ap (whens-from (own-number text) position 0) (all-words text t s) ∙ text-whens l t (own-number text) position (own-found text l t s) (λ ns m j. refl) known within in
+      ap (whens-from (own-number text) number-among 0) (all-words text t s) ∙ text-whens l t (own-number text) number-among (own-found text t s) among-found known within in
       rw W at P
 
   pub count-room : (k ≡ end-kind → ⊥) → n < length text

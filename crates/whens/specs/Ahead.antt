@@ -1,12 +1,14 @@
--- What is told by the words that are left: guard places, names ahead; and records cut to bytes.
+-- Guard places, numbers that were looked for, records cut to bytes.
 -- Assumes nothing.
 use Prim.Native.Nat.{ℕ, _+_, _%_}
-use mathlib.Core.Bool.{Bool, _&&_, _||_}
-use mathlib.Core.List.{List, [], _∷_}
-use lib.Dec.{eqb, leb}
-use Rattle.model.specs.Words.{choose, kept}
-use Rattle.grammar.specs.Grammar.{Token, Name}
-use Rattle.grammar.specs.Kinds.{kind-of, bytes-of}
+use mathlib.Core.Bool.{Bool, _&&_}
+use mathlib.Core.List.{List}
+use lib.Dec.{leb}
+use Rattle.model.specs.Words.{choose}
+use Rattle.grammar.specs.Grammar.{Name}
+use Rattle.lists.specs.Lent.{found-from}
+use Rattle.lists.specs.declared.Found.{Found}
+use Rattle.lists.specs.declared.Found.the-variants.{At, Nowhere}
 use Rattle.encoding.specs.Records.{Four, Eight, four, eight}
 
 -- the words that stand for a guard record: and, or, not, in_state, not_in_state
@@ -17,16 +19,14 @@ guard-kind k = leb 15 k && leb k 19
 unfoldable pub guards-after : ℕ → ℕ → ℕ
 guards-after n k = choose (guard-kind k) (λ _. n + 1) (λ _. n)
 
--- the bytes of the first word
-unfoldable pub first-bytes : List Token → List ℕ
-first-bytes [] = []
-first-bytes (w ∷ ws) = bytes-of w
+-- the number that was found, or 0
+abbrev pub found-number : Found → ℕ
+found-number (At i) = i
+found-number Nowhere = 0
 
--- the names behind the words of a kind, up to the first word of the other kind, or the end
-unfoldable pub names-ahead : ℕ → ℕ → List Token → List Name
-names-ahead kind stop [] = []
-names-ahead kind stop (w ∷ ws) =
-    choose (eqb (kind-of w) stop || eqb (kind-of w) 26) (λ _. []) (λ _. kept (eqb (kind-of w) kind) (first-bytes ws) (names-ahead kind stop ws))
+-- the number of a name among others; 0 where it is none of them
+abbrev pub number-among : List Name → Name → ℕ
+number-among ns n = found-number (found-from 0 ns n)
 
 -- a record whose numbers are cut to bytes
 abbrev pub low4 : Four → Four

@@ -6,7 +6,7 @@ use mathlib.Core.List.{List}
 use lib.ListN.{length}
 use Rattle.words.specs.Scanning.{tokens-from, stretch}
 use Rattle.grammar.specs.Grammar.{Referrer, move-to, run, stay}
-use Rattle.whens.specs.Ahead.{first-bytes}
+use Rattle.own.specs.Ahead.{first-bytes}
 use Rattle.whens.specs.Whens.{referrer-ahead}
 use Rattle.whens.specs.declared.Stretch.{Stretch}
 use Rattle.whens.specs.declared.Refer.{Refer}

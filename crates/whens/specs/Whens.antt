@@ -8,7 +8,6 @@ use lib.Dec.{eqb}
 use Rattle.model.specs.Words.{choose, kept}
 use Rattle.grammar.specs.Grammar.{Token, Name, Text, Referrer, move-to, run, stay, stay-in}
 use Rattle.grammar.specs.Kinds.{kind-of}
-use Rattle.grammar.specs.Words.{position}
 use Rattle.grammar.specs.Reading.{Says}
 use Rattle.naming.specs.NameLists.{Lists}
 use Rattle.naming.specs.Naming.{class-in}
@@ -18,7 +17,8 @@ use Rattle.encoding.specs.Encoding.{when-records}
 use Rattle.encoding.specs.Within.{Within}
 use Rattle.words.specs.Scanning.{tokens-from}
 use Rattle.pen.specs.Writing.{Puts}
-use Rattle.whens.specs.Ahead.{guards-after, first-bytes, names-ahead, low4}
+use Rattle.own.specs.Ahead.{first-bytes, names-ahead, names-from}
+use Rattle.whens.specs.Ahead.{guards-after, number-among, low4}
 
 -- the first referrer ahead, without the state behind a stay_in_state; stay where there is none
 unfoldable pub referrer-ahead : List Token → Referrer
@@ -55,14 +55,14 @@ module _ (own : Name → ℕ) (among : List Name → Name → ℕ) where
 
 -- the number of an own state of a text
 unfoldable pub own-number : List ℕ → Name → ℕ
-own-number text n = position (names-ahead 2 26 (tokens-from text 0)) n
+own-number text n = number-among (names-from text 2 26 0) n
 
 -- the when clause whose words behind its first stand at a place of the text, and those of the words from there on
 abbrev pub when-at : List ℕ → ℕ → ℕ → Four
-when-at text at n = when-ahead (own-number text) position n (tokens-from text at)
+when-at text at n = when-ahead (own-number text) number-among n (tokens-from text at)
 
 abbrev pub whens-left : List ℕ → ℕ → ℕ → List Four
-whens-left text at n = whens-from (own-number text) position n (tokens-from text at)
+whens-left text at n = whens-from (own-number text) number-among n (tokens-from text at)
 
 -- the when clauses of the text's class stand in the buffer from a place on
 abbrev pub WritesWhens : List ℕ → List ℕ → ℕ → List ℕ → ℕ → Type 0

@@ -1,18 +1,21 @@
 // The body of when clauses: one record for each word `when`, by the words ahead of it.
-use kinds::is_same;
+use lists::Found;
+use own::Holding;
+use own::ahead;
+use own::hold;
+use own::number_of;
 use pen::put_four;
 use words::next_word;
 ghost use mathlib.Core.Path.{_≡_};
 ghost use mathlib.Core.List.{[], _∷_};
-ghost use Prim.Native.Nat.{_/_, _%_, _<_, _≤_};
-ghost use lib.ListN.{length};
-ghost use Rattle.grammar.specs.Words.{position};
-ghost use Rattle.words.specs.Scanning.{tokens-from, stretch};
+ghost use Prim.Native.Nat.{_%_, _<_};
+ghost use Rattle.own.specs.Ahead.{names-from};
+ghost use Rattle.own.specs.Held.{Filled};
 ghost use Rattle.encoding.specs.Records.{four, fours};
 ghost use Rattle.pen.specs.Writing.{Puts};
-ghost use Rattle.whens.specs.Ahead.{guards-after, first-bytes, names-ahead, low4};
+ghost use Rattle.whens.specs.Ahead.{guards-after, found-number, number-among, low4};
 ghost use Rattle.whens.specs.Naming.{NameAhead, Refers};
-ghost use Rattle.whens.specs.Whens.{when-at, WritesWhens};
+ghost use Rattle.whens.specs.Whens.{own-number, when-at, WritesWhens};
 
 // Where a name starts and ends.
 pub struct Stretch {
@@ -66,29 +69,29 @@ pub fn name_ahead(text: &[u8], at: usize) -> Stretch
     }
 }
 
-// The number of a name among those ahead that stand behind words of a kind, up to a word of the other kind.
-pub fn number_ahead(text: &[u8], at: usize, kind: u8, stop: u8, word: &[u8]) -> usize
-    ensures { λ r. ⌜ r ≡ position (names-ahead kind stop (tokens-from (now (text .entry)) at)) (now (word .entry)) ⌝ }
+// The number that was found, or 0.
+pub fn found_number(found: Found) -> usize
+    ensures { λ r. ⌜ r ≡ found-number found ⌝ }
 {
-    let mut here = at;
-    let mut n = 0;
-    loop {
-        let w = next_word(text, here);
-        let k = w.kind;
-        if (k == stop) | (k == 26) {
-            return n;
-        }
-        here = w.end;
-        if k == kind {
-            let name = name_ahead(text, here);
-            let start = name.start;
-            let end = name.end;
-            if is_same(&text[start..end], word) {
-                return n;
-            }
-            n = n + 1;
-        }
+    match found {
+        Found::At(i) => i,
+        Found::Nowhere => 0,
     }
+}
+
+// The number of an own state; a table holds the places of the first own states' names.
+pub fn own_number(text: &[u8], table: &[usize], own: Holding, word: &[u8]) -> usize
+    requires { ⌜ Filled (now text) (now table) 2 26 0 (own .count) (own .rest) ⌝ }
+    ensures { λ r. ⌜ r ≡ own-number (now (text .entry)) (now (word .entry)) ⌝ }
+{
+    found_number(number_of(text, table, own.count, own.rest, 2, 26, word))
+}
+
+// The number of an action of the state whose words stand at a place.
+fn action_number(text: &[u8], at: usize, word: &[u8]) -> usize
+    ensures { λ r. ⌜ r ≡ number-among (names-from (now (text .entry)) 3 2 at) (now (word .entry)) ⌝ }
+{
+    found_number(ahead(text, at, 3, 2, word, 0))
 }
 
 // The first referrer ahead.
@@ -113,7 +116,16 @@ fn referrer_ahead(text: &[u8], at: usize) -> Refer
 }
 
 // The record of a when clause, by the words from a place on, with n guard records before it.
-fn put_when(text: &[u8], here: usize, n: usize, out: &mut [u8], at: usize) -> usize
+fn put_when(
+    text: &[u8],
+    table: &[usize],
+    own: Holding,
+    here: usize,
+    n: usize,
+    out: &mut [u8],
+    at: usize,
+) -> usize
+    requires { ⌜ Filled (now text) (now table) 2 26 0 (own .count) (own .rest) ⌝ }
     ensures { λ r. ⌜ Puts (fours (when-at (now (text .entry)) here n ∷ [])) (now (out .entry)) at (now (out .exit)) r ⌝ }
 {
     let to = referrer_ahead(text, here);
@@ -121,13 +133,13 @@ fn put_when(text: &[u8], here: usize, n: usize, out: &mut [u8], at: usize) -> us
         Refer::MoveTo(name) => {
             let start = name.start;
             let end = name.end;
-            let own = number_ahead(text, 0, 2, 26, &text[start..end]);
-            put_record(out, at, n, n / 256, 0, own)
+            let state = own_number(text, table, own, &text[start..end]);
+            put_record(out, at, n, n / 256, 0, state)
         }
         Refer::Do(name) => {
             let start = name.start;
             let end = name.end;
-            let action = number_ahead(text, here, 3, 2, &text[start..end]);
+            let action = action_number(text, here, &text[start..end]);
             put_record(out, at, n, n / 256, 1, action)
         }
         Refer::Stay => put_record(out, at, n, n / 256, 2, 0),
@@ -138,6 +150,8 @@ fn put_when(text: &[u8], here: usize, n: usize, out: &mut [u8], at: usize) -> us
 pub fn write_whens(text: &[u8], out: &mut [u8], at: usize) -> usize
     ensures { λ r. ⌜ WritesWhens (now (text .entry)) (now (out .entry)) at (now (out .exit)) r ⌝ }
 {
+    let mut table = [0usize; 64];
+    let own = hold(text, 0, 2, 26, &mut table);
     let mut here = 0;
     let mut n = 0;
     let mut end = at;
@@ -151,7 +165,7 @@ pub fn write_whens(text: &[u8], out: &mut [u8], at: usize) -> usize
         here = w.end;
         n = guards_after(n, k);
         if k == 7 {
-            end = put_when(text, here, before, out, end);
+            end = put_when(text, &table, own, here, before, out, end);
         }
     }
 }

@@ -1,4 +1,4 @@
-use Rattle.limits.proofs.CountLaws.{Left, left-on, left-stop, left-over}
+use Rattle.limits.proofs.CountLaws.{Left, left-none, left-on, left-stop, left-over}
 use Prim.Native.Nat.{ℕ, _+_, _-_, _<_, _≤_}
 use native.Mathlib.Omega.{arith}
 use mathlib.Core.Path.{_≡_, refl, sym, _∙_, ap}
@@ -7,6 +7,7 @@ use Rattle.limits.proofs.sets_right.Statement.{statement}
 use Rattle.limits.proofs.sets_right.Tie as tie
 use Rattle.limits.proofs.sets_right.Reads as reads
 use Rattle.limits.proofs.sets_right.Lts as lts
+use Rattle.limits.proofs.whole.Reads as whole-reads
 use Rattle.lists.proofs.class_set.Reads as class-set-reads
 use Rattle.lists.proofs.record_count.Reads as record-count-reads
 
@@ -20,13 +21,16 @@ record-count-requires : tie.Need-record-count-requires Inv-loop μ-loop
 record-count-requires c κs = search needs
 
 loop-holds : tie.Need-loop-holds Inv-loop μ-loop
-loop-holds c = refl
+loop-holds c = left-none _
 
 class-set-requires : tie.Need-class-set-requires Inv-loop μ-loop
 class-set-requires c κs = search needs
 
+whole-requires : tie.Need-whole-requires Inv-loop μ-loop
+whole-requires c κs = search needs
+
 returns : tie.Need-returns Inv-loop μ-loop
-returns c = sym (left-stop _ _ _ _ (c .before .before .before .before .record-count .ensures) (c .before .before .before .loop .inv) (c .before .before .loop-test .taken) (c .before .class-set .ensures) (c .if1 .taken))
+returns c = let w = c .before .whole .ensures in left-stop _ _ _ _ (c .before .before .before .before .before .record-count .ensures) (c .before .before .before .before .loop .inv) (c .before .before .before .loop-test .taken) (w .0 ∙ c .before .before .class-set .ensures) (c .if1 .taken)
 
 add-i : tie.Need-add-i Inv-loop μ-loop
 add-i c = search needs
@@ -35,10 +39,10 @@ loop-less : tie.Need-loop-less Inv-loop μ-loop
 loop-less c = search needs
 
 loop-again : tie.Need-loop-again Inv-loop μ-loop
-loop-again c = left-on _ _ _ _ (c .before .before .before .before .record-count .ensures) (c .before .before .before .loop .inv) (c .before .before .loop-test .taken) (c .before .class-set .ensures) (c .if1 .left)
+loop-again c = let w = c .before .whole .ensures in left-on _ _ _ _ (c .before .before .before .before .before .record-count .ensures) (c .before .before .before .before .loop .inv) (c .before .before .before .loop-test .taken) (w .0 ∙ c .before .before .class-set .ensures) (w .1) (c .if1 .left)
 
 returns-2 : tie.Need-returns-2 Inv-loop μ-loop
-returns-2 c = sym (left-over _ _ _ (c .before .before .record-count .ensures) (c .before .loop .inv) (c .loop-test .left))
+returns-2 c = left-over _ _ _ (c .before .before .record-count .ensures) (c .before .loop .inv) (c .loop-test .left)
 
 pub sets-right-spec : {M : Type 1} → statement M
 sets-right-spec =
@@ -49,6 +53,7 @@ sets-right-spec =
     record-count-requires
     loop-holds
     class-set-requires
+    whole-requires
     returns
     add-i
     loop-less

@@ -1,15 +1,12 @@
--- By what was found.
+-- As it was found.
 -- Assumes nothing.
-use Rattle.statements.proofs.LookingLaws.{number-found, number-nowhere}
+use Rattle.statements.proofs.LookingLaws.{number-told}
 use borrow.Author.Needs.{needs}
 use Rattle.statements.proofs.listed_number.Statement.{statement}
 use Rattle.statements.proofs.listed_number.Tie as tie
 
 returns : tie.Need-returns
-returns c = number-found _ _ _ _ (c .before .before .before .number-in .ensures) _ (c .before .found .given .1)
-
-returns-2 : tie.Need-returns-2
-returns-2 c = number-nowhere _ _ _ _ (c .before .before .number-in .ensures) (c .enum-told .given .1)
+returns c = number-told _ _ _ _ _ (c .before .number-in .ensures) (c .found-number .ensures)
 
 pub listed-number-spec : {M : Type 1} → statement M
-listed-number-spec = tie.close (tie.spec (λ c κs. search needs) (λ c. search needs) (λ c. search needs) returns returns-2)
+listed-number-spec = tie.close (tie.spec (λ c κs. search needs) (λ c κs. search needs) returns)

@@ -3,17 +3,17 @@
 use Prim.Native.Nat.{_-_}
 use native.Mathlib.Omega.{arith}
 use lib.ListN.{length}
-use borrow.Author.Needs.{needs}
 use Rattle.whens.proofs.AheadLaws.{less-ahead}
 use Rattle.whens.proofs.WritingLaws.{Turning, first-turn, whens-end, count-room, whens-pass, whens-put}
+use borrow.Author.Needs.{needs}
 use Rattle.whens.proofs.write_whens.Statement.{statement}
 use Rattle.whens.proofs.write_whens.Tie as tie
 
 abbrev Inv-loop : tie.InvT-loop
-Inv-loop text out₀ at here₀ n₀ end₀ out here n end = Turning text out₀ at out here n end
+Inv-loop text out₀ at table own here₀ n₀ end₀ out here n end = Turning text out₀ at out here n end
 
 abbrev μ-loop : tie.MeasureT-loop
-μ-loop text out₀ at here₀ n₀ end₀ out here n end = length text - here
+μ-loop text out₀ at table own here₀ n₀ end₀ out here n end = length text - here
 
 loop-holds : tie.Need-loop-holds Inv-loop μ-loop
 loop-holds c = first-turn _ _ _ (omega arith)
@@ -22,21 +22,23 @@ same-length : tie.Need-same-length Inv-loop μ-loop
 same-length c = c .before .before .loop .inv .same-length
 
 returns : tie.Need-returns Inv-loop μ-loop
-returns c = whens-end _ _ _ _ _ _ _ _ _ _ (c .before .before .loop .inv) (c .before .next-word .ensures) (c .if1 .taken) (let e = c .before .before .loop .inv .same-length in omega arith)
+returns c =
+    whens-end _ _ _ _ _ _ _ _ _ _ (c .before .before .loop .inv) (c .before .next-word .ensures) (c .if1 .taken) (let e = c .before .before .loop .inv .same-length in omega arith)
 
 guards-after-requires : tie.Need-guards-after-requires Inv-loop μ-loop
 guards-after-requires c κs =
     let l = count-room _ _ _ _ _ _ _ _ _ _ (c .before .before .loop .inv) (c .before .next-word .ensures) (c .if1 .left) in
     omega arith
 
+put-when-requires : tie.Need-put-when-requires Inv-loop μ-loop
+put-when-requires c κs = c .before .before .before .before .before .before .before .before .hold .ensures
+
 loop-less : tie.Need-loop-less Inv-loop μ-loop
-loop-less c =
-    let b = c .before .before .before .before .before .before in
-    less-ahead _ _ _ _ _ (b .before .next-word .ensures) (b .if1 .left)
+loop-less c = less-ahead _ _ _ _ _ (c .before .before .before .before .before .before .before .before .next-word .ensures) (c .before .before .before .before .before .before .before .if1 .left)
 
 loop-again : tie.Need-loop-again Inv-loop μ-loop
 loop-again c =
-    let d = c .before .before .before .before in
+    let d = c .before .before .before .before .before in
     let b = d .before .before in
     whens-put _ _ _ _ _ _ _ _ _ _ (b .before .before .loop .inv) (b .before .next-word .ensures) (b .if1 .left) _ (d .before .guards-after .ensures) (d .if2 .taken) _ _
     (c .before .before .put-when .ensures)
@@ -52,4 +54,4 @@ loop-again-2 c =
 pub write-whens-spec : {M : Type 1} → statement M
 write-whens-spec =
     tie.close
-    (tie.spec Inv-loop μ-loop loop-holds (λ c κs. search needs) same-length returns guards-after-requires (λ c κs. search needs) loop-less loop-again loop-less-2 loop-again-2)
+    (tie.spec Inv-loop μ-loop (λ c. search needs) (λ c κs. search needs) loop-holds (λ c κs. search needs) same-length returns guards-after-requires (λ c. search needs) put-when-requires loop-less loop-again loop-less-2 loop-again-2)

@@ -1,7 +1,6 @@
 -- `prefixed::inserts::open_gap` meets its contract. The loop's invariant: the bytes from i on stand eight higher. The measure is i.
 -- Assumes nothing.
 use Prim.Native.Nat.{ℕ, _≤_}
-use native.Mathlib.Omega.{arith}
 use mathlib.Core.Path.{_≡_, refl, _∙_, ap}
 use lib.ListN.{length, length-set}
 use borrow.Author.Needs.{needs}

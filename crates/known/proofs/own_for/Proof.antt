@@ -1,0 +1,16 @@
+-- `own_for` meets its contract.
+-- Assumes nothing.
+use borrow.Author.Needs.{needs}
+use Rattle.known.proofs.RoleLaws.{for-own, for-no-own}
+use Rattle.known.proofs.own_for.Statement.{statement}
+use Rattle.known.proofs.own_for.Tie as tie
+
+returns : tie.Need-returns
+returns c = for-own _ _ _ (c .before .if1 .taken) _ (c .is-among .ensures)
+
+returns-2 : tie.Need-returns-2
+returns-2 c = for-no-own _ _ _ (c .if1 .left)
+
+pub own-for-spec : {M : Type 1} → statement M
+own-for-spec =
+    tie.close (tie.spec (λ c κs. search needs) returns returns-2)
