@@ -47,7 +47,7 @@ unfolding on-sheet
 asked-of b a rest = rw a
 
 -- the class has a state for each name
-states-counted : (l : Lists) (t : Text) → length (own-names t) ≡ length (class-in l t .states)
+pub states-counted : (l : Lists) (t : Text) → length (own-names t) ≡ length (class-in l t .states)
 unfolding own-names class-in
 states-counted l t = length-map (all-states t) (λ s. s .own) ∙ sym (length-map (all-states t) (state-of l (own-names t)))
 

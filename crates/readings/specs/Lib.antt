@@ -1,3 +1,4 @@
 pub mod Readings
 pub mod Reads
 pub mod Promise
+pub mod Computed
