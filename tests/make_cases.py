@@ -3,10 +3,11 @@
 
 Run it at the repository's root: python3 tests/make_cases.py. It needs the standard library alone, and writes the same files every time.
 
-Each case is a question line with the answer line that document 01 ("the paper") asks for. The answers are written here by hand, from the
-paper; none is taken from the program. Sheets are put together by the small functions below, which only lay out bytes; they know no rule
-of the paper but its layouts. Three cases search all of 2 to the 20th configurations, which takes compiled code seconds; `rt try` runs
-out of its own limits there, and says so, on the interpreter and where it checks the compiler's assumptions.
+Each case is a question line with the answer line that document 01 ("the paper") asks for, or request 1 of document 02 with the forms of
+docs/TEXT.md where a class text is read. The answers are written here by hand, from those; none is taken from the program. Sheets are put
+together by the small functions below, which only lay out bytes; they know no rule of the paper but its layouts. Three cases search all
+of 2 to the 20th configurations, which takes compiled code seconds; `rt try` runs out of its own limits there, and says so, on the
+interpreter and where it checks the compiler's assumptions.
 """
 import os
 
@@ -908,6 +909,421 @@ case(loop(TWENTY_OF, 3, FORTY), "refused 14 " + FORTY.hex())
 case(loop(TWENTY_OF, 2, FORTY), "loop 4 0 0102" + FORTY[2:].hex())
 case(loop(TWENTY_OF, 1, FORTY), "free 0 " + FORTY.hex())
 
+# --------------------------------------------------------------------------------------------------------------------- class texts that are read
+
+
+def record(name):
+    """A name record: the name, and zeros behind it."""
+    return name.encode().ljust(32, b"\x00")
+
+
+def named(*ns):
+    """A list of child state names or of commands, or a table of own states."""
+    return b"".join(record(n) for n in ns)
+
+
+def kin(*classes):
+    """A list of child classes, each (its name, its name set)."""
+    return b"".join(record(n) + u32(s) for n, s in classes)
+
+
+def read(text, lists, sheet_buffer, table_buffer):
+    """The lists are child state names, commands and child classes."""
+    if isinstance(text, str):
+        text = text.encode()
+    return "read " + " ".join(hexed(b) for b in (text, *lists, sheet_buffer, table_buffer))
+
+
+ROOM, TABLE = b"\x5a" * 20000, b"\xa5" * 2000
+
+
+def reads(text, lists, s, *own):
+    """The text is read as the sheet s, with these own states; three bytes behind the sheet are kept, and one behind the table."""
+    t = named(*own)
+    case(read(text, lists, ROOM[:len(s) + 3], TABLE[:len(t) + 1]), "read %d %d %s5a5a5a %sa5" % (len(s), len(own), s.hex(), t.hex()))
+
+
+def unread(number, text, lists, m=400, n=70):
+    """The text is refused, and the buffers of m and n bytes are as they were."""
+    case(read(text, lists, ROOM[:m], TABLE[:n]), "refused %d %s %s" % (number, hexed(ROOM[:m]), hexed(TABLE[:n])))
+
+
+def wrong(marked, lists, m=3, n=0):
+    """16; a caret marks the place, and is no part of the text."""
+    place = marked.index("^")
+    case(read(marked.replace("^", "", 1), lists, ROOM[:m], TABLE[:n]), "refused 16 %d %s %s" % (place, hexed(ROOM[:m]), hexed(TABLE[:n])))
+
+
+# sheet A
+PRESS = """class: $FWPART_$TOP$PRESS
+  state: READY
+    when ( $ANY$HEATER not_in_state HOT ) move_to HOLD
+  state: HOLD
+    when ( $ANY$HEATER in_state HOT ) move_to READY
+"""
+HEATERS = (named("COLD", "HOT", "FAULT"), b"", kin(("HEATER", names(0, 1, 2))))
+OWN = named("READY", "HOLD")
+reads(PRESS, HEATERS, A, "READY", "HOLD")
+# room that just suffices, and one byte too few in the one buffer, the other, both
+case(read(PRESS, HEATERS, ROOM[:60], TABLE[:64]), "read 60 2 %s %s" % (A.hex(), OWN.hex()))
+unread(15, PRESS, HEATERS, 59, 64)
+unread(15, PRESS, HEATERS, 60, 63)
+unread(15, PRESS, HEATERS, 59, 63)
+unread(15, PRESS, HEATERS, 0, 200)
+unread(15, PRESS, HEATERS, 200, 0)
+unread(15, PRESS, HEATERS, 0, 0)
+case(read(PRESS, HEATERS, ROOM[:200], TABLE[:100]), "read 60 2 %s %s" % ((A + ROOM[60:200]).hex(), (OWN + TABLE[64:100]).hex()))
+
+# document 000, Listing 1
+reads("""class: $FWPART_$TOP$RPC
+  state: ON
+    when ( $ANY$FwCHILDREN in_state ERROR ) move_to ERROR
+    action: RESET
+      do OFF $ALL$FwCHILDREN
+  state: ERROR
+    when ( $ANY$FwCHILDREN in_state ON ) move_to ON
+""", (named("ON", "ERROR"), named("RESET", "OFF"), b""),
+      sheet([], [atom(ANY_IN, EVERYONE, 1), atom(ANY_IN, EVERYONE, 0)], [([when(0, MOVE_TO, 1)], [(0, send(1))]), ([when(1, MOVE_TO, 0)], [])]), "ON", "ERROR")
+
+# document 002, Listing 1: four of its states are not in the part that is shown
+CHAMBER = """class: $FWPART_$TOP$RPC_Chamber_CLASS
+  state: OFF
+    when ( ( $ANY$FwCHILDREN in_state ERROR ) or
+           ( $ANY$FwCHILDREN in_state TRIPPED ) ) move_to ERROR
+
+    when ( $ANY$RPC_HV in_state {RAMPING_UP,
+                                RAMPING_DOWN} ) move_to RAMPING
+  when ( ( $ALL$RPC_LV in_state ON ) and
+         ( $ALL$RPC_HV in_state STANDBY ) ) move_to STANDBY
+
+  when ( ( $ALL$RPC_HV in_state ON ) and
+         ( $ALL$RPC_LV in_state ON ) ) move_to ON
+
+  when ( ( $ALL$FwCHILDREN in_state ON ) and
+         ( $ALL$RPC_T in_state OK ) ) move_to ON
+
+  action: STANDBY
+    do STANDBY $ALL$RPC_HV
+    do ON $ALL$RPC_LV
+  action: OFF
+    do OFF $ALL$FwCHILDREN
+  action: ON
+    do ON $ALL$FwCHILDREN
+"""
+CHAMBERS = (
+    named("ERROR", "TRIPPED", "RAMPING_UP", "RAMPING_DOWN", "ON", "STANDBY", "OK"), named("STANDBY", "OFF", "ON"),
+    kin(("RPC_HV", names(2, 3, 4, 5)), ("RPC_LV", names(4)), ("RPC_T", names(6))))
+unread(17, CHAMBER, CHAMBERS)
+reads(CHAMBER + "state: ERROR state: RAMPING state: STANDBY state: ON", CHAMBERS,
+      sheet(
+          [klass(2, 3, 4, 5), klass(4), klass(6)],
+          [OR, atom(ANY_IN, EVERYONE, 0), atom(ANY_IN, EVERYONE, 1), atom(ANY_IN, 0, 2, 3), AND, atom(ALL_IN, 1, 4), atom(ALL_IN, 0, 5), AND, atom(ALL_IN, 0, 4),
+           atom(ALL_IN, 1, 4), AND, atom(ALL_IN, EVERYONE, 4), atom(ALL_IN, 2, 6)],
+          [([when(0, MOVE_TO, 1), when(3, MOVE_TO, 2), when(4, MOVE_TO, 3), when(7, MOVE_TO, 4), when(10, MOVE_TO, 4)],
+            [(0, send(0, 0) + send(2, 1)), (1, send(1)), (2, send(2))])] + [([], [])] * 4),
+      "OFF", "ERROR", "RAMPING", "STANDBY", "ON")
+# Listing 2, inside a class
+reads("""class: $FWPART_$TOP$C state: OFF action: STANDBY
+  do STANDBY $ALL$RPC_HV
+  do ON $ALL$RPC_LV
+  if ( $ALL$RPC_LV in_state ON ) then
+    do ON $ALL$RPC_HV
+    if ( $ALL$RPC_HV in_state ON ) then
+      move_to ON
+    endif
+  else
+    do STANDBY $ALL$RPC_LV
+    do STANDBY $ALL$RPC_HV
+    do STANDBY $ALL$FwCHILDREN
+  endif
+state: ON""", (named("ON"), named("STANDBY", "ON"), kin(("RPC_HV", 1), ("RPC_LV", 1))),
+      sheet(
+          [klass(0), klass(0)], [atom(ALL_IN, 1, 0), atom(ALL_IN, 0, 0)],
+          [([], [(0, send(0, 0) + send(1, 1) + branch(0, send(1, 0) + branch(1, go(1)), send(0, 1) + send(0, 0) + send(0)))]), ([], [])]),
+      "OFF", "ON")
+# Listing 3: dots stand nowhere. Without them and with a head and HVMIXED it is read, and loops as the document says
+EXCERPT = """state: ANALOG_ON_RED
+...
+when ( $ANY$TkPowerGroup not_in_state DIGITAL_ON_RED ) move_to LVMIXED
+...
+
+state: LVMIXED
+...
+when ( $ANY$TkPowerGroup in_state {ON, HVMIXED} ) move_to HVMIXED
+when ( $ALL$FwCaenChannelCtrl in_state ON and
+      $ALL$TkPowerGroup in_state ANALOG_ON_RED ) move_to ANALOG_ON_RED
+...
+"""
+GROUPS = (named("ANALOG_ON_RED", "ON", "HVMIXED", "DIGITAL_ON_RED"), b"", kin(("TkPowerGroup", names(0, 1, 2, 3)), ("FwCaenChannelCtrl", names(1))))
+wrong("class: $FWPART_$TOP$C " + EXCERPT.replace(".", "^.", 1), GROUPS)
+GROUP = sheet(
+    [klass(0, 1, 2, 3), klass(1)], [atom(ANY_NOT_IN, 0, 3), atom(ANY_IN, 0, 1, 2), AND, atom(ALL_IN, 1, 1), atom(ALL_IN, 0, 0)],
+    [([when(0, MOVE_TO, 1)], []), ([when(1, MOVE_TO, 2), when(2, MOVE_TO, 0)], []), ([], [])])
+reads("class: $FWPART_$TOP$C " + EXCERPT.replace(".", "") + "state: HVMIXED", GROUPS, GROUP, "ANALOG_ON_RED", "LVMIXED", "HVMIXED")
+case(phase(GROUP, [(0, 0), (1, 1)], 0), "loop 1 3")
+
+# ------------------------------------------------------------------------------------------------------------------- the forms of the class text
+
+H = "class: $FWPART_$TOP$X state: A "
+PQ = (named("P", "Q"), named("go", "stop"), kin(("K", names(0, 1)), ("L", names(1))))
+KL = [klass(0, 1), klass(1)]
+a, b, c = "$ANY$K in_state P", "$ANY$K in_state Q", "$ALL$L not_in_state P"
+ra, rb, rc = atom(ANY_IN, 0, 0), atom(ANY_IN, 0, 1), atom(ALL_NOT_IN, 1, 0)
+
+
+def guarded(guard, *records):
+    """A guard, and its records."""
+    reads(H + "when " + guard + " move_to A", PQ, sheet(KL, records, [([when(0, MOVE_TO, 0)], [])]), "A")
+
+
+# a class has one state and nothing else; white space is blank, tab, line feed and carriage return, and parts two runs alone
+reads("class: $FWPART_$TOP$X state: A", (b"", b"", b""), SMALLEST, "A")
+reads("class:$FWPART_$TOP$X\tstate:A", (b"", b"", b""), SMALLEST, "A")
+reads("\r\n\t class:\n$FWPART_$TOP$\rX \t\r\n state:\r\nA\n\n", (b"", b"", b""), SMALLEST, "A")
+reads("class:$FWPART_$TOP$X state:A when(not($ANY$K in_state{P,Q}))move_to A", PQ, sheet(KL, [NOT, atom(ANY_IN, 0, 0, 1)], [([when(0, MOVE_TO, 0)], [])]), "A")
+wrong("class: $FWPART_$TOP$X^\x0bstate: A", PQ)
+wrong("class: $FWPART_$TOP$X^\x0cstate: A", PQ)
+wrong("class: $FWPART_$TOP$X^\x00state: A", PQ)
+# the lists' classes stand in the sheet, used or not; the class's own name stands nowhere
+reads("class: $FWPART_$TOP$K state: P state: go state: L", PQ, sheet(KL, [], [([], [])] * 3), "P", "go", "L")
+reads("class: $FWPART_$TOP$X state: A", (named("P", "Q"), b"", kin(("P", 3), ("Q", 2))), sheet(KL, [], [([], [])]), "A")
+# names of 1 and of 31 characters; names that are nearly words of the grammar
+LONG = "abcdefghijklmnopqrstuvwxyz_0123"
+assert len(LONG) == 31
+reads("class: $FWPART_$TOP$%s state: %s state: 9 state: _" % (LONG, LONG), PQ, sheet(KL, [], [([], [])] * 3), LONG, "9", "_")
+wrong(H + "state: ^%s4" % LONG, PQ)
+wrong("class: $FWPART_$TOP$^%s4 state: A" % LONG, PQ)
+NEARLY = ["When", "any", "classes", "state_", "action0", "empty", "wait", "in_states", "do_", "not_", "IF", "FWPART", "top", "all"]
+reads("class: $FWPART_$TOP$X " + " ".join("state: " + n for n in NEARLY), PQ, sheet(KL, [], [([], [])] * len(NEARLY)), *NEARLY)
+for reserved in "class state action when move_to do stay_in_state if then else endif and or not in_state not_in_state FwCHILDREN FWPART_ TOP ANY ALL".split():
+    wrong("class: $FWPART_$TOP$X state: ^" + reserved, PQ, 1, 1)
+# guards: not before and before or, equals from the left, brackets as they stand; needless ones count for nothing
+guarded(a, ra)
+guarded(f"( {a} )", ra)
+guarded("(" * 40 + a + ")" * 40, ra)
+guarded(f"{a} and {b} and {c}", AND, AND, ra, rb, rc)
+guarded(f"{a} or {b} or {c}", OR, OR, ra, rb, rc)
+guarded(f"{a} and ({b} and {c})", AND, ra, AND, rb, rc)
+guarded(f"{a} or ({b} or {c})", OR, ra, OR, rb, rc)
+guarded(f"{a} or {b} and {c}", OR, ra, AND, rb, rc)
+guarded(f"{a} and {b} or {c}", OR, AND, ra, rb, rc)
+guarded(f"({a} or {b}) and {c}", AND, OR, ra, rb, rc)
+guarded(f"{a} and ({b} or {c})", AND, ra, OR, rb, rc)
+guarded(f"not {a} and {b} or {c}", OR, AND, NOT, ra, rb, rc)
+guarded(f"not ({a} and {b}) or {c}", OR, NOT, AND, ra, rb, rc)
+guarded(f"not ({a} and {b} or {c})", NOT, OR, AND, ra, rb, rc)
+guarded(f"not not {a}", NOT, NOT, ra)
+guarded(f"not (not ({a}))", NOT, NOT, ra)
+guarded(f"{a} or not {b} and not not {c}", OR, ra, AND, NOT, rb, NOT, NOT, rc)
+guarded(f"({a} or {b}) and ({b} or {c}) or {c} and {a}", OR, AND, OR, ra, rb, OR, rb, rc, AND, rc, ra)
+guarded(f"((({a}) or (({b})))) and (({c}))", AND, OR, ra, rb, rc)
+# atoms and sets: a name twice in braces, and a name that the class lacks
+guarded("$ANY$FwCHILDREN not_in_state Q", atom(ANY_NOT_IN, EVERYONE, 1))
+guarded("$ALL$L in_state {P}", atom(ALL_IN, 1, 0))
+guarded("$ALL$FwCHILDREN in_state {Q, P}", atom(ALL_IN, EVERYONE, 0, 1))
+guarded("$ANY$K not_in_state { Q , Q,P ,Q }", atom(ANY_NOT_IN, 0, 0, 1))
+# every referrer; STAY's target is 0, whatever stands behind it; guards stand in the order of the words when and if
+reads(f"""class: $FWPART_$TOP$X
+  state: A
+    when {a} stay_in_state
+    when {b} stay_in_state A
+    when {c} stay_in_state B
+    when {a} move_to B
+    when {b} do stop
+    when {c} do go
+    action: go
+      if {b} then
+        do stop $ALL$K
+        if {c} and {a} then move_to A endif
+      else
+        do go $ALL$FwCHILDREN
+      endif
+      move_to B
+    action: stop
+  state: B
+    when {a} stay_in_state
+  state: C
+    action: stop
+      if {a} then endif
+      if {b} then else endif
+      if {c} then else do go $ALL$L endif
+    action: go
+""", PQ, sheet(
+    KL, [ra, rb, rc, ra, rb, rc, rb, AND, rc, ra, ra, ra, rb, rc],
+    [([when(0, STAY), when(1, STAY), when(2, STAY), when(3, MOVE_TO, 1), when(4, DO, 1), when(5, DO, 0)],
+      [(0, branch(6, send(1, 0) + branch(7, go(0)), send(0)) + go(1)), (1, [])]),
+     ([when(10, STAY)], []),
+     ([], [(1, branch(11) + branch(12) + branch(13, [], send(0, 1))), (0, [])])]), "A", "B", "C")
+reads(H + f"when {a} stay_in_state state: B", PQ, sheet(KL, [ra], [([when(0, STAY)], []), ([], [])]), "A", "B")
+reads(H + f"when {a} stay_in_state action: go", PQ, sheet(KL, [ra], [([when(0, STAY)], [(0, [])])]), "A")
+reads(H + f"when {a} stay_in_state", PQ, sheet(KL, [ra], [([when(0, STAY)], [])]), "A")
+# the first command of a list and the last, a state that stands behind, a list of 64 commands and one of 32 names
+MANY = (named(*["n%d" % n for n in range(32)]), named(*["c%d" % m for m in range(64)]), kin(*[("k%d" % k, 1 << (31 - k)) for k in range(8)]))
+MANY_K = [klass(31 - k) for k in range(8)]
+reads(H + "when $ANY$k7 in_state {n31,n0} move_to Z action: c63 do c0 $ALL$k7 action: c0 do c63 $ALL$k0 move_to Z state: Z", MANY,
+      sheet(MANY_K, [atom(ANY_IN, 7, 0, 31)], [([when(0, MOVE_TO, 1)], [(63, send(0, 7)), (0, send(63, 0) + go(1))]), ([], [])]), "A", "Z")
+
+# --------------------------------------------------------------------------------------------------------- 16: a caret marks the word that cannot stand
+
+K = (named("P"), named("go", "stop"), kin(("K", 1)))
+for marked in [
+        "^", " \t\r\n^", "^x", "^$", "^state: A", "^class", "class: ^", "class:^:", "^class $FWPART_$TOP$X state: A", "class: $FWPART_$TOP$^",
+        "class: $FWPART_$TOP$X ^",
+        "class: $FWPART_$TOP$X ^sta",
+        "class: $FWPART_$TOP$X ^state A",
+        "class: $FWPART_$TOP$X ^state : A",
+        "class: ^$FWPART_$TOP X state: A",
+        "class: ^X state: A",
+        "class: $FWPART_$TOP$X state: ^when",
+        "class: $FWPART_$TOP$X state: A^-B",
+        "class: $FWPART_$TOP$X ^Y state: A",
+        "H ^class: $FWPART_$TOP$Y state: B",
+        "H ^A", "H ^do go", "H ^move_to A", "H ^}", "H state: ^", "H state: B ^state", "H ^!", "H ^#x", "H state: ^state: B",
+        "H when ^", "H when ^when", "H when ^A", "H when ( ^)", "H when not ^",
+        "H when ^$any$K in_state P",
+        "H when ^$ ANY$K in_state P", "H when $ANY$^$ANY$K in_state P", "H when $ANY$^in_state P", "H when $ANY$K ^in P", "H when $ANY$K ^P",
+        "H when $ANY$K in_state ^FwCHILDREN move_to A", "H when $ANY$K in_state {^} move_to A", "H when $ANY$K in_state {P ^Q} move_to A",
+        "H when $ANY$K in_state {^", "H when $ANY$K in_state {P^", "H when $ANY$K in_state {P^;Q}",
+        "H when $ANY$K in_state {P,^}",
+        "H when ( $ANY$K in_state P ^move_to A",
+        "H when $ANY$K in_state P ^) move_to A",
+        "H when $ANY$K in_state P ^", "H when $ANY$K in_state P and ^", "H when $ANY$K in_state P ^not $ANY$K in_state P move_to A",
+        "H when $ANY$K in_state P or ^and", "H when $ANY$K in_state P ^then", "H when $ANY$K in_state P ^$ANY$K in_state P", "H when $ANY$K ^not in_state P",
+        "H when $ANY$K in_state P move_to ^", "H when $ANY$K in_state P move_to A ^A", "H when $ANY$K in_state P do ^$ALL$K", "H when $ANY$K in_state P do go ^$ALL$K",
+        "H when $ANY$K in_state P do go ^stop", "H when $ANY$K in_state P stay_in_state A ^A", "H when $ANY$K in_state P stay_in_state ^do go",
+        "H when $ANY$K in_state P move_to^: A",
+        "H action: ^", "H action: ^when", "H action: go ^go", "H action: go ^stay_in_state", "H action: go ^endif", "H action: go ^else", "H action: go ^then",
+        "H action: go ^when $ANY$K in_state P move_to A",
+        "H action: go do stop ^$ANY$K",
+        "H action: go do ^$ALL$K", "H action: go do stop ^", "H action: go do stop $ALL$^{K}", "H action: go do stop $ALL$K ^K",
+        "H action: go move_to ^", "H action: go if ^then endif", "H action: go if $ANY$K in_state P ^do stop $ALL$K endif", "H action: go if $ANY$K in_state P then ^",
+        "H action: go if $ANY$K in_state P then move_to A ^state: B", "H action: go if $ANY$K in_state P then ^action: stop", "H action: go if $ANY$K in_state P then endif ^endif",
+        "H action: go if $ANY$K in_state P then else ^else endif",
+        "H action: go if $ANY$K in_state P then endif ^else endif",
+        "H action: go if $ANY$K in_state P then if $ANY$K in_state P then else endif else endif ^else endif",
+        "H action: go if $ANY$K in_state P then else if $ANY$K in_state P then endif ^else endif endif",
+        "H action: go if $ANY$K in_state P then else if $ANY$K in_state P then else endif ^else endif endif",
+        "H action: go if $ANY$K in_state P then move_to A else move_to A ^",
+        "H action: go ^wait", "H action: go ^empty", "H action: go do stop $ALL$^*"]:
+    wrong(marked.replace("H ", H, 1) if marked.startswith("H ") else marked, K)
+# bytes over 127 are words that stand nowhere
+case(read(H.encode() + b"\xc3\xa9", K, b"", b""), "refused 16 %d - -" % len(H))
+case(read(b"\xff", K, b"\x01", b"\x02"), "refused 16 0 01 02")
+# deep brackets and ifs, one that is open or closed too much; ifs deeper than 8, with an else that is one too many
+wrong(H + "when " + "(" * 300 + a + ")" * 299 + " ^move_to A", PQ)
+wrong(H + "when " + "(" * 300 + a + ")" * 300 + "^) move_to A", PQ)
+DEEP_IF = "action: go " + f"if {a} then " * 20
+wrong(H + DEEP_IF + "else " + "endif else " * 19 + "endif ^else", PQ)
+wrong(H + DEEP_IF + "else ^else", PQ)
+wrong(H + DEEP_IF + "else endif " * 10 + "^action: stop", PQ)
+# 16 comes before every other number: an unknown name, a list that is not right, a limit, no room
+wrong(H + "when $ANY$none in_state none move_to none ^none", (b"\x01", b"\x02", b"\x03"), 0, 0)
+
+# ------------------------------------------------------------------------------------------------------------------------------ 17: names
+
+SMALL_TEXT = "class: $FWPART_$TOP$X state: A"
+# lists: part records, ill-formed names, names twice
+for at in range(3):
+    width = 36 if at == 2 else 32
+    behind = bytes(4) if at == 2 else b""
+
+    def one_list(b):
+        return tuple(b if i == at else PQ[0] if i == 0 and at == 2 else b"" for i in range(3))
+
+    for name in [bytes(32), b"x" * 32, b"\x00x".ljust(32, b"\x00"), b"x\x00y".ljust(32, b"\x00"), b"x-y".ljust(32, b"\x00"), b"x ".ljust(32, b"\x00"),
+                 b"when".ljust(32, b"\x00"), b"ANY".ljust(32, b"\x00"), b"class:".ljust(32, b"\x00"), b"\xc3\xa9".ljust(32, b"\x00"), b"FwCHILDREN".ljust(32, b"\x00")]:
+        unread(17, SMALL_TEXT, one_list(name + u32(1)[:len(behind)]), 40, 40)
+    good = record("fine") + u32(1)[:len(behind)]
+    unread(17, SMALL_TEXT, one_list(good[:width - 1]), 40, 40)
+    unread(17, SMALL_TEXT, one_list(good + b"\x00"), 40, 40)
+    unread(17, SMALL_TEXT, one_list(b"\x00"), 40, 40)
+    unread(17, SMALL_TEXT, one_list(good + good), 40, 40)
+    unread(17, SMALL_TEXT, one_list(good + record("other") + u32(2)[:len(behind)] + good), 40, 40)
+    reads(SMALL_TEXT, one_list(good + record("finer") + u32(2)[:len(behind)]), sheet([klass(0), klass(1)] if at == 2 else [], [], [([], [])]), "A")
+    reads(SMALL_TEXT, one_list(record(LONG) + u32(1)[:len(behind)]), sheet([klass(0)] if at == 2 else [], [], [([], [])]), "A")
+# a set bit without a name
+unread(17, SMALL_TEXT, (named("P"), b"", kin(("K", 2))))
+unread(17, SMALL_TEXT, (named("P", "Q"), b"", kin(("K", names(0, 31)))))
+unread(17, SMALL_TEXT, (b"", b"", kin(("K", 1))))
+# names of the text that are not known: child state, class, command, own state
+for text in [
+        f"when {a} or $ANY$K in_state R move_to A", "when $ANY$K in_state {P,R} move_to A", "when $ANY$K in_state go move_to A", "when $ANY$M in_state P move_to A",
+        "when $ANY$P in_state P move_to A", f"when {a} move_to B", f"when {a} move_to a", f"when {a} stay_in_state B", f"when {a} do go", f"when {a} do halt action: go",
+        f"when {a} do stop action: go state: B action: stop", "action: halt", "action: P", "action: go do halt $ALL$K", "action: go do stop $ALL$M", "action: go do A $ALL$K",
+        "action: go move_to B", f"action: go if {a} then move_to B endif", "action: go if $ANY$X in_state P then endif", "action: go if $ANY$K in_state A then endif",
+        f"action: go if {a} then else do go $ALL$A endif", "state: A", "state: B state: C state: B", "action: go action: go", "action: go action: stop action: go",
+        "state: B action: go do stop $ALL$K action: go"]:
+    unread(17, H + text, PQ)
+# the same command in two states, a state that stands before or behind, one word in all the lists
+reads(H + "action: go state: B action: go move_to A", PQ, sheet(KL, [], [([], [(0, [])]), ([], [(0, go(0))])]), "A", "B")
+reads(H.replace("state: A", "state: W") + "when $ANY$W in_state W move_to W action: W do W $ALL$W", (named("W"), named("W"), kin(("W", 1))),
+      sheet([klass(0)], [atom(ANY_IN, 0, 0)], [([when(0, MOVE_TO, 0)], [(0, send(0, 0))])]), "W")
+
+# ----------------------------------------------------------------------------------------------------------------------------- 18: limits
+
+
+def few(n, letter="n"):
+    return named(*["%s%d" % (letter, i) for i in range(n)])
+
+
+def limited(text, lists, s, *own):
+    """The text is read, in buffers that just suffice."""
+    t = named(*own)
+    case(read(text, lists, ROOM[:len(s)], TABLE[:len(t)]), "read %d %d %s %s" % (len(s), len(own), s.hex(), t.hex()))
+
+
+unread(18, SMALL_TEXT, (few(33), b"", b""))
+unread(18, SMALL_TEXT, (few(1000), b"", b""))
+unread(18, SMALL_TEXT, (b"", few(65), b""))
+unread(18, SMALL_TEXT, (named("P"), b"", kin(*[("k%d" % k, 1) for k in range(9)])))
+unread(18, SMALL_TEXT, (named("P"), b"", kin(("K", 0))))
+unread(18, SMALL_TEXT, (named("P"), b"", kin(("K", 1), ("L", 0))))
+OWN32 = ["s%d" % q for q in range(32)]
+limited("class: $FWPART_$TOP$X " + " ".join("state:" + q for q in OWN32), PQ, sheet(KL, [], [([], [])] * 32), *OWN32)
+unread(18, "class: $FWPART_$TOP$X " + " ".join("state: s%d" % q for q in range(33)), PQ)
+unread(18, "class: $FWPART_$TOP$X " + " ".join("state: s%d" % q for q in range(300)), PQ)
+# 17 behind the 33rd state comes before 18
+unread(17, "class: $FWPART_$TOP$X " + " ".join("state: s%d" % q for q in range(40)) + " state: s39", PQ)
+unread(17, "class: $FWPART_$TOP$X " + " ".join("state: s%d" % q for q in range(40)) + " action: go move_to s40", PQ)
+unread(18, "class: $FWPART_$TOP$X " + " ".join("state: s%d" % q for q in range(40)) + " action: go move_to s39", PQ)
+limited(H + f"when {a} stay_in_state " * 256, PQ, sheet(KL, [ra] * 256, [([when(i, STAY) for i in range(256)], [])]), "A")
+unread(18, H + f"when {a} stay_in_state " * 257, PQ)
+limited("class: $FWPART_$TOP$X" + "".join(" state: s%d" % q + "".join(" action: c%d" % m for m in range(64)) for q in range(4)), MANY,
+        sheet(MANY_K, [], [([], [(m, []) for m in range(64)])] * 4), "s0", "s1", "s2", "s3")
+unread(18, "class: $FWPART_$TOP$X" + "".join(" state: s%d" % q + "".join(" action: c%d" % m for m in range(64)) for q in range(4)) + " state: Z action: c0", MANY)
+limited(H + "action: go " + "move_to A " * 1024, PQ, sheet(KL, [], [([], [(0, go(0) * 1024)])]), "A")
+unread(18, H + "action: go " + "move_to A " * 1025, PQ)
+limited(H + "action: go " + f"if {a} then do go $ALL$K endif " * 512, PQ,
+        sheet(KL, [ra] * 512, [([], [(0, [r for i in range(512) for r in branch(i, send(0, 0))])])]), "A")
+unread(18, H + "action: go " + f"if {a} then do go $ALL$K endif " * 512 + "action: stop move_to A", PQ)
+limited(H + f"when {a} and {b} or not {c} move_to A " * 170 + f"when not not not {a} stay_in_state", PQ,
+        sheet(KL, [OR, AND, ra, rb, NOT, rc] * 170 + [NOT, NOT, NOT, ra], [([when(6 * i, MOVE_TO, 0) for i in range(170)] + [when(1020, STAY)], [])]), "A")
+unread(18, H + f"when {a} and {b} or not {c} move_to A " * 170 + f"when not not not not {a} stay_in_state", PQ)
+# operators on one path: 16 and 17, of each kind; brackets are none
+guarded("not " * 16 + a, *[NOT] * 16, ra)
+unread(18, H + "when " + "not " * 17 + a + " move_to A", PQ)
+guarded(f"{a} and " * 16 + b, *[AND] * 16, *[ra] * 16, rb)
+unread(18, H + "when " + f"{a} and " * 17 + b + " move_to A", PQ)
+guarded(f"{a} or (" * 16 + b + ")" * 16, *[OR, ra] * 16, rb)
+unread(18, H + "when " + f"{a} or (" * 17 + b + ")" * 17 + " move_to A", PQ)
+guarded("((" + f"{a} or (" * 16 + b + ")" * 16 + "))", *[OR, ra] * 16, rb)
+guarded(f"{a} and " * 8 + "not " * 8 + b, *[AND] * 8, *[ra] * 8, *[NOT] * 8, rb)
+guarded(f"{a} and " * 15 + "not " * 15 + b, *[AND] * 15, *[ra] * 15, *[NOT] * 15, rb)
+unread(18, H + "when " + f"{a} and " * 15 + "not " * 16 + b + " move_to A", PQ)
+# ifs: 8 and 9 deep, in then-parts and in else-parts
+limited(H + "action: go " + f"if {a} then " * 8 + "move_to A " + "endif " * 8, PQ,
+        sheet(KL, [ra] * 8, [([], [(0, [r for i in range(8) for r in branch(i, [b""] * (8 - i))[:1]] + go(0))])]), "A")
+unread(18, H + "action: go " + f"if {a} then " * 9 + "move_to A " + "endif " * 9, PQ)
+limited(H + "action: go " + f"if {a} then else " * 8 + "endif " * 8, PQ,
+        sheet(KL, [ra] * 8, [([], [(0, [r for i in range(8) for r in branch(i, [], [b""] * (7 - i))[:1]])])]), "A")
+unread(18, H + "action: go " + f"if {a} then else " * 9 + "endif " * 9, PQ)
+# 17 before 18 before 15
+unread(17, H + "when " + "not " * 17 + "$ANY$M in_state P move_to A", PQ, 0, 0)
+unread(17, H + "action: go " * 2, (few(33), named("go"), b""), 0, 0)
+unread(18, H + "when " + "not " * 17 + a + " move_to A", PQ, 0, 0)
+unread(18, SMALL_TEXT, (few(33), b"", b""), 0, 0)
+unread(15, SMALL_TEXT, PQ, 0, 0)
+
 # --------------------------------------------------------------------------------------------------------------------------- lines that are no questions
 
 for line in [
@@ -917,21 +1333,30 @@ for line in [
         "probe 00 - +1", "probe 00 - 1a", "probe 00 - a", "probe 00 - ", "probe 00  0", "probe  - 0", "probe 00 0 0", "probe 0 - 0", "probe 00 - 999",
         "probe 00 - 0/", "probe 00 - 2:", "probe 00 - 300", "probe 00 - 18446744073709551616", "phase 00 -", "phase 00 - 0 0", "phase 00 - x", "phase zz - 0",
         "command 00 - 0 0", "command 00 - 0 0 - -", "command 00 - 256 0 -", "command 00 - 0 256 -", "command 00 - 0 0 0", "command 00 - 0 0 ", "command 00 - 0 00 -",
-        "command 00 0 0 0 -", "command 0 - 0 0 -", "loop 00 0", "loop 00 0 - -", "loop 00 256 -", "loop 00 - -", "loop 00 0 0", "loop x 0 -", "loop 00 0  ", "free 0", "accepted"]:
+        "command 00 0 0 0 -", "command 0 - 0 0 -", "loop 00 0", "loop 00 0 - -", "loop 00 256 -", "loop 00 - -", "loop 00 0 0", "loop x 0 -", "loop 00 0  ", "free 0", "accepted",
+        "read", "read -", "read - - - - -", "read - - - - - - -", "read - - - - -  ", "read  - - - - - -", "read - - - - - ", "read - - - - - 0", "read 0 - - - - -",
+        "read - 0g - - - -", "read - - x - - -", "read - - - 0 - -", "read - - - - A0 -", "read - - - - - --", "Read - - - - - -", "reads - - - - - -", "rea - - - - - -"]:
     case(line, "bad line")
 # the same forms, right
 for line, answer in [
         ("judge 00", "refused 1"), ("judge -", "refused 1"), ("judge 0123456789abcdef", "refused 1"), ("probe 00 - 0", "refused 1"), ("probe 00 - 255", "refused 1"),
         ("probe - - 10", "refused 1"), ("phase 00 00 100", "refused 1"), ("phase 00 - 99", "refused 1"), ("command - - 0 0 -", "refused 1 -"),
-        ("command - 00 255 255 00ff", "refused 1 00ff"), ("loop - 0 -", "refused 1 -"), ("loop 00 255 0123456789abcdef", "refused 1 0123456789abcdef")]:
+        ("command - 00 255 255 00ff", "refused 1 00ff"), ("loop - 0 -", "refused 1 -"), ("loop 00 255 0123456789abcdef", "refused 1 0123456789abcdef"),
+        ("read - - - - - -", "refused 16 0 - -"), ("read 00 00 00 00 00ff ff00", "refused 16 0 00ff ff00"), ("read 20 - - - - 0123456789abcdef", "refused 16 1 - 0123456789abcdef")]:
     case(line, answer)
-# a line of 262,144 bytes is read, one of 262,145 is not, and the line behind it is answered
-case("judge " + "ab" * 131069, "refused 1")
-assert len(QUESTIONS[-1]) == 262144
-case("judge " + "ab" * 131069 + "c", "bad line")
+# a line of 1,048,576 bytes is read, one of 1,048,577 is not, and the line behind it is answered
+case("judge " + "ab" * 524285, "refused 1")
+assert len(QUESTIONS[-1]) == 1048576
+case("judge " + "ab" * 524285 + "c", "bad line")
 case("judge " + SMALLEST.hex(), "accepted")
-case("x" * 300000, "bad line")
+case("x" * 1100000, "bad line")
 case(probe(SMALLEST, [], 0), "none")
+# so with a class text, whose guard stands in as many brackets as the line holds
+DEEP_LISTS = (named("P"), named("go"), kin(("K", 1)))
+DEEP_SHEET = sheet([klass(0)], [atom(ANY_IN, 0, 0)], [([when(0, MOVE_TO, 0)], [])])
+DEEP = H + "when " + "(" * 262000 + "$ANY$K in_state P" + ")" * 262000 + " move_to A"
+limited(DEEP + " " * (524283 - len(DEEP) - 32 - 32 - 36 - len(DEEP_SHEET) - 32), DEEP_LISTS, DEEP_SHEET, "A")
+assert len(QUESTIONS[-1]) == 1048576
 
 # --------------------------------------------------------------------------------------------------------------------------- the files
 

@@ -13,13 +13,21 @@ use Rattle.model.proofs.Words.{both-ways, and-left, and-right}
 use Rattle.bargewicker.specs.Questions.{judge, probe-in, phase-from, command-in, loop-with, reply}
 use Rattle.model.specs.Replies.{Answered}
 use Rattle.bargewicker.specs.Numbers.{values, numbers-for}
+use Rattle.model.specs.Answers.{read-numbers}
+use Rattle.model.specs.declared.ReadAnswer.{ReadAnswer}
+use Rattle.model.specs.declared.ReadAnswer.the-variants as R
+use Rattle.readings.specs.Readings.{Lent, Outcome}
+use Rattle.readings.specs.Promise as Promise
+use Rattle.readings.specs.Promise.{reading-as, came}
+use Rattle.readings.specs.Computed.{computed, numbers-in}
+use Rattle.readings.proofs.ComputedLaws.{answer-computed}
 use Rattle.texts.specs.Texts.{Appended}
 use Rattle.texts.specs.Fields.{occurs, number-of, string-right, string-bytes, Decodes}
 use Rattle.texts.specs.declared.reading.Number.{Number}
 use Rattle.texts.specs.declared.reading.Number.the-variants.{Is, Bad}
 use Rattle.texts.specs.declared.reading.Decoded.{Decoded}
-use Rattle.lines.specs.Lines.{bad-line, judge-text, probe-text, phase-text, command-line, loop-line}
-use Rattle.asking.specs.Asking.{judge-verb, loop-verb, probe-verb, phase-verb, command-verb, same-bytes, is-form, verb-of, first, others, with-string, on-number, with-number, line-of, placed-answer, sheet-answer, fields-answer, answer-line}
+use Rattle.lines.specs.Lines.{bad-line, judge-text, probe-text, phase-text, command-line, loop-line, read-line}
+use Rattle.asking.specs.Asking.{judge-verb, loop-verb, probe-verb, phase-verb, command-verb, read-verb, same-bytes, is-form, verb-of, first, others, with-string, on-number, with-number, line-of, line-of-text, placed-answer, sheet-answer, fields-answer, answer-line}
 use Rattle.asking.specs.declared.Asked.{Asked}
 use Rattle.asking.specs.declared.Asked.the-variants as A
 use Rattle.asking.specs.declared.Verb.{Verb}
@@ -72,10 +80,15 @@ module _ (v : List ℕ) (n : ℕ) where
   unfolding verb-of
   verb-command a b c d e = rw (a, b, c, d, e)
 
-  pub verb-other : is-form v judge-verb n 1 ≡ false → is-form v loop-verb n 3 ≡ false → is-form v probe-verb n 3 ≡ false → is-form v phase-verb n 3 ≡ false
-      → is-form v command-verb n 5 ≡ false → W.Other ≡ verb-of v n
+  pub verb-read : is-form v judge-verb n 1 ≡ false → is-form v loop-verb n 3 ≡ false → is-form v probe-verb n 3 ≡ false → is-form v phase-verb n 3 ≡ false
+      → is-form v command-verb n 5 ≡ false → is-form v read-verb n 6 ≡ true → W.Read ≡ verb-of v n
   unfolding verb-of
-  verb-other a b c d e = rw (a, b, c, d, e)
+  verb-read a b c d e f = rw (a, b, c, d, e, f)
+
+  pub verb-other : is-form v judge-verb n 1 ≡ false → is-form v loop-verb n 3 ≡ false → is-form v probe-verb n 3 ≡ false → is-form v phase-verb n 3 ≡ false
+      → is-form v command-verb n 5 ≡ false → is-form v read-verb n 6 ≡ false → W.Other ≡ verb-of v n
+  unfolding verb-of
+  verb-other a b c d e f = rw (a, b, c, d, e, f)
 
 -- ---- fields
 
@@ -85,15 +98,15 @@ flipped false c e = ap not e
 
 -- a string of bytes, wrong or read
 module _ (l m : List ℕ) (end : ℕ) (f field before after : List ℕ) (r : Decoded) (rest : List ℕ → List ℕ → List ℕ) (e : field ≡ first f) (d : Decodes field before after r)
-    (k : length before ≡ 131072) where
-  right-is : r .right ≡ string-right 131072 (first f)
+    (k : length before ≡ 524288) where
+  right-is : r .right ≡ string-right 524288 (first f)
   right-is = let h = d .right in rw (k, e) at h
 
   pub string-wrong : not (r .right) ≡ true → Appended l m 0 bad-line end → Appended l m 0 (with-string f rest) end
   unfolding with-string
-  string-wrong h a = let g : string-right 131072 (first f) ≡ false = sym right-is ∙ flipped (r .right) true h in rw g a
+  string-wrong h a = let g : string-right 524288 (first f) ≡ false = sym right-is ∙ flipped (r .right) true h in rw g a
 
-  part-is : r .length ≤ length after → take (r .length) after ≡ string-bytes 131072 (first f)
+  part-is : r .length ≤ length after → take (r .length) after ≡ string-bytes 524288 (first f)
   part-is c =
       let s : List ℕ = string-bytes (length before) field in
       let x : length after ≡ length before = ap length (d .buffer) ∙ length-sets before 0 s in
@@ -105,8 +118,8 @@ module _ (l m : List ℕ) (end : ℕ) (f field before after : List ℕ) (r : Dec
       → Appended l m 0 (with-string f rest) end
   unfolding with-string
   string-read c h g x a =
-      let y : string-right 131072 (first f) ≡ true = sym right-is ∙ flipped (r .right) false h in
-      let z : Appended l m 0 (rest (string-bytes 131072 (first f)) (others f)) end = rw (part-is c, x) at a in
+      let y : string-right 524288 (first f) ≡ true = sym right-is ∙ flipped (r .right) false h in
+      let z : Appended l m 0 (rest (string-bytes 524288 (first f)) (others f)) end = rw (part-is c, x) at a in
       rw y z
 
 -- a number, wrong or read
@@ -150,6 +163,22 @@ module _ (l m : List ℕ) (end : ℕ) (ns : List ℕ) where
   unfolding line-of sheet-answer
   judge-put v b f h e a = rw h (rw e at a)
 
+-- the numbers of an answer to a class text
+numbers-read : (r : ReadAnswer) → read-numbers r ≡ numbers-in (reading-as r)
+numbers-read (R.Refused x) = refl
+numbers-read (R.WrongWord place) = refl
+numbers-read (R.Read length states) = refl
+
+pub text-put : (l m : List ℕ) (end : ℕ) (q : Lent) (r : ReadAnswer) (sheet table : List ℕ) → Promise.Answered q r sheet table → Appended l m 0 (read-line (read-numbers r) sheet table) end
+    → Appended l m 0 (line-of-text q) end
+unfolding line-of-text
+text-put l m end q r sheet table h a =
+    let e : came r sheet table ≡ computed q = answer-computed q (came r sheet table) h in
+    let u : reading-as r ≡ computed q .reading = ap (λ (o : Outcome). o .reading) e in
+    let v : sheet ≡ computed q .sheet = ap (λ (o : Outcome). o .sheet) e in
+    let w : table ≡ computed q .table = ap (λ (o : Outcome). o .table) e in
+    rw (numbers-read r ∙ ap numbers-in u, v, w) at a
+
 -- the same kind of question, and the same verb, are answered the same
 module _ (l m : List ℕ) (end : ℕ) where
   pub same-placed : (j k : Asked) (b c : List ℕ) (q : ℕ) (f : List ℕ) → j ≡ k → Appended l m 0 (placed-answer k b c q f) end → Appended l m 0 (placed-answer j b c q f) end
@@ -161,13 +190,13 @@ module _ (l m : List ℕ) (end : ℕ) where
 -- ---- the line
 
 module _ (l m : List ℕ) (end : ℕ) (line : List ℕ) where
-  pub too-long : 262144 < length line → Appended l m 0 bad-line end → Appended l m 0 (answer-line line) end
+  pub too-long : 1048576 < length line → Appended l m 0 bad-line end → Appended l m 0 (answer-line line) end
   unfolding answer-line
-  too-long h a = rw (lt-leb (length line) 262144 h) a
+  too-long h a = rw (lt-leb (length line) 1048576 h) a
 
-  pub line-asked : (v : Verb) (n : ℕ) (field f : List ℕ) → length line ≤ 262144 → field ≡ first line → n ≡ occurs 32 line → v ≡ verb-of field n → f ≡ others line
+  pub line-asked : (v : Verb) (n : ℕ) (field f : List ℕ) → length line ≤ 1048576 → field ≡ first line → n ≡ occurs 32 line → v ≡ verb-of field n → f ≡ others line
       → Appended l m 0 (fields-answer v f) end → Appended l m 0 (answer-line line) end
   unfolding answer-line
   line-asked v n field f h x y z w a =
       let u : v ≡ verb-of (first line) (occurs 32 line) = z ∙ ap (λ (t : List ℕ). verb-of t n) x ∙ ap (verb-of (first line)) y in
-      rw (le-leb (length line) 262144 h) (rw (u, w) at a)
+      rw (le-leb (length line) 1048576 h) (rw (u, w) at a)

@@ -1,5 +1,6 @@
-// The face: the five questions on bytes and numbers. Each gets an answer for any input; nothing is asked of the caller beforehand, and
-// a refusal writes no byte into a lent buffer. What each answer means is in specs/: Questions.antt, Numbers.antt and Promises.antt.
+// The face: the six questions on bytes and numbers. Each gets an answer for any input; nothing is asked of the caller beforehand, and
+// a refusal writes no byte into a lent buffer. What each answer means is in specs/: Questions.antt, Numbers.antt and Promises.antt; of a
+// class text in the specs/ of readings.
 use accepted::held::CLASSES;
 use accepted::readers::body_of;
 use accepted::readers::state_count;
@@ -13,6 +14,7 @@ use model::LoopAnswer;
 use model::OwnState;
 use model::PhaseAnswer;
 use model::ProbeAnswer;
+use model::ReadAnswer;
 use model::Refusal;
 use sheet::judging::Places;
 use sheet::judging::Verdict;
@@ -20,6 +22,7 @@ ghost use mathlib.Core.Path.{_≡_};
 ghost use mathlib.Core.List.{[]};
 ghost use Rattle.sheet.specs.Verdict.{Stands};
 ghost use Rattle.sheet.specs.Reading.{class-of};
+ghost use Rattle.readings.specs.Promise.{asked, Answered};
 ghost use Rattle.bargewicker.specs.Questions.{judge, probe-in, phase-from, command-in, loop-with};
 ghost use Rattle.bargewicker.specs.Promises.{Promised};
 ghost use Rattle.bargewicker.specs.Placing.{placed-refusal, placing-number};
@@ -83,6 +86,20 @@ pub fn loop_question(sheet: &[u8], present: u8, out: &mut [u8]) -> LoopAnswer
         Verdict::Accepted(p) => loop_with(sheet, p, present, out),
         Verdict::Refused(x) => LoopAnswer::Refused(x),
     }
+}
+
+// Which class is this text? Where it is read, its sheet and its table of own states stand at the heads of the lent buffers.
+pub fn read_class(
+    text: &[u8],
+    names: &[u8],
+    commands: &[u8],
+    classes: &[u8],
+    sheet: &mut [u8],
+    table: &mut [u8],
+) -> ReadAnswer
+    ensures { λ r. ⌜ Answered (asked (now (text .entry)) (now (names .entry)) (now (commands .entry)) (now (classes .entry)) (now (sheet .entry)) (now (table .entry))) r (now (sheet .exit)) (now (table .exit)) ⌝ }
+{
+    reading::read_class(text, names, commands, classes, sheet, table)
 }
 
 // What follows is asked of an accepted sheet: refusals 10 to 15 in their order, then the answer.

@@ -16,7 +16,7 @@ use Rattle.model.specs.declared.LoopAnswer.the-variants.{Refused, Given}
 use Rattle.model.proofs.RefusalLaws.{numbered-from-1}
 use Rattle.texts.specs.Texts.{Appended, decimal-text, number-text, hex-text}
 use Rattle.texts.proofs.Decimals.{decimal-length}
-use Rattle.lines.specs.Lines.{refused-word, loop-word, free-word, said, string-field, text-of, loop-text, child-field, child-fields, is-loop, loopcheck-line}
+use Rattle.lines.specs.Lines.{refused-word, loop-word, free-word, said, string-field, text-of, loop-text, read-text, child-field, child-fields, is-loop, loopcheck-line}
 
 -- a refusal has the same text whatever was asked
 refusal-text : (words : List (List ℕ)) (n : ℕ) → 1 ≤ n → text-of words (n ∷ []) ≡ said refused-word (n ∷ [])
@@ -27,6 +27,15 @@ refusal-text words (suc n) h = refl
 pub told-refused : (words : List (List ℕ)) (l m : List ℕ) (end : ℕ) (x : Refusal) → Appended l m 0 (said refused-word (number-of x ∷ [])) end
     → Appended l m 0 (text-of words (number-of x ∷ [])) end
 told-refused words l m end x a = rw (refusal-text words (number-of x) (numbered-from-1 x)) a
+
+-- so of a class text that is refused for another reason than its words
+read-refusal : (n : ℕ) → 1 ≤ n → read-text (n ∷ []) ≡ said refused-word (n ∷ [])
+unfolding read-text
+read-refusal zero h = absurd (omega arith)
+read-refusal (suc n) h = refl
+
+pub read-refused : (l m : List ℕ) (end : ℕ) (x : Refusal) → Appended l m 0 (said refused-word (number-of x ∷ [])) end → Appended l m 0 (read-text (number-of x ∷ [])) end
+read-refused l m end x a = rw (read-refusal (number-of x) (numbered-from-1 x)) a
 
 -- a string with no bytes, and one with some
 pub no-bytes : (bytes : List ℕ) → length bytes ≡ 0 → 32 ∷ 45 ∷ [] ≡ string-field bytes

@@ -41,6 +41,9 @@ handled-word = 104 ∷ 97 ∷ 110 ∷ 100 ∷ 108 ∷ 101 ∷ 100 ∷ []
 abbrev pub free-word : List ℕ
 free-word = 102 ∷ 114 ∷ 101 ∷ 101 ∷ []
 
+abbrev pub read-word : List ℕ
+read-word = 114 ∷ 101 ∷ 97 ∷ 100 ∷ []
+
 -- a word and numbers behind it, a space before each
 unfoldable pub said : List ℕ → List ℕ → List ℕ
 said text [] = text
@@ -74,12 +77,22 @@ command-text = text-of (ignored-word ∷ handled-word ∷ [])
 abbrev pub loop-text : List ℕ → List ℕ
 loop-text = text-of (free-word ∷ loop-word ∷ [])
 
+-- a class text that is read has one case, so no number for it; where it goes wrong, the place stands behind the 16
+unfoldable pub read-text : List ℕ → List ℕ
+read-text [] = []
+read-text (zero ∷ values) = said read-word values
+read-text (suc n ∷ values) = said refused-word (suc n ∷ values)
+
 -- with the lent buffer as it is after the call
 abbrev pub command-line : List ℕ → List ℕ → List ℕ
 command-line ns final = command-text ns ++ string-field final
 
 abbrev pub loop-line : List ℕ → List ℕ → List ℕ
 loop-line ns final = loop-text ns ++ string-field final
+
+-- the sheet's buffer, then that of the table of own states
+abbrev pub read-line : List ℕ → List ℕ → List ℕ → List ℕ
+read-line ns sheet table = read-text ns ++ string-field sheet ++ string-field table
 
 -- a child as class:name, a space before it
 abbrev pub child-field : ℕ → ℕ → List ℕ

@@ -41,7 +41,7 @@ fn say_one(word: &[u8], x: u64, out: &mut [u8]) -> usize
 }
 
 // A word and two numbers.
-fn say_two(word: &[u8], x: u64, y: u64, out: &mut [u8]) -> usize
+pub fn say_two(word: &[u8], x: u64, y: u64, out: &mut [u8]) -> usize
     ensures { λ r. ⌜ Appended (now (out .entry)) (now (out .exit)) 0 (said (now (word .entry)) (x ∷ y ∷ [])) r ⌝ }
 {
     let end = say_one(word, x, out);
@@ -57,14 +57,14 @@ fn say_three(word: &[u8], x: u64, y: u64, z: u64, out: &mut [u8]) -> usize
 }
 
 // refused NUMBER
-fn refused(x: Refusal, out: &mut [u8]) -> usize
+pub fn refused(x: Refusal, out: &mut [u8]) -> usize
     ensures { λ r. ⌜ Appended (now (out .entry)) (now (out .exit)) 0 (said refused-word (number-of x ∷ [])) r ⌝ }
 {
     say_one(b"refused", refusal_number(x), out)
 }
 
 // A string of bytes as a further field: a space, then its hex digits, `-` for the empty one.
-fn append_string(out: &mut [u8], at: usize, bytes: &[u8]) -> usize
+pub fn append_string(out: &mut [u8], at: usize, bytes: &[u8]) -> usize
     ensures { λ r. ⌜ Appended (now (out .entry)) (now (out .exit)) at (string-field (now (bytes .entry))) r ⌝ }
 {
     let next = append_byte(out, at, b' ');

@@ -1,4 +1,3 @@
-// The lines of answers: one for each question that `questions` is asked, and the one that `loopcheck` prints. Nothing is asked of a caller
-// beforehand. What the lines are is in specs/Lines.antt.
+// The lines of answers, one for each question that `questions` is asked. Nothing is asked of a caller beforehand. What the lines are is in
+// specs/Lines.antt.
 pub mod answers;
-pub mod loopcheck;

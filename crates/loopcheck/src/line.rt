@@ -1,6 +1,6 @@
 // The line that loopcheck prints of a sheet, written into a lent buffer. What it is, is in specs/Line.antt.
 use accepted::readers::class_count;
-use lines::loopcheck::loopcheck_line;
+use loopline::loopcheck_line;
 use loops::asked::loop_with;
 use model::LoopAnswer;
 use model::Loops;

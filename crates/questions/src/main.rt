@@ -3,7 +3,7 @@
 //   judge SHEET | probe SHEET LIST STATE | phase SHEET LIST STATE | command SHEET LIST STATE COMMAND BUFFER | loop SHEET PRESENT BUFFER
 //
 // Byte strings are lower-case hex, `-` for the empty one; numbers are decimal, 0 to 255; fields are parted by one space. A line that is
-// none of these, or longer than 262,144 bytes, is answered `bad line`. A line is answered by `asking`.
+// none of these, or longer than 1,048,576 bytes, is answered `bad line`. A line is answered by `asking`.
 use asking::answer;
 use libc::STDIN_FILENO;
 use libc::STDOUT_FILENO;
@@ -87,8 +87,8 @@ fn turn(s: Input, chunk: &mut [u8], line: &mut [u8], out: &mut [u8]) -> Input
 // A proved loop has to end, and nothing says that the input does: the turns are counted down from a number that no run uses up.
 fn main() {
     let mut chunk = [0u8; 65536];
-    let mut line = [0u8; 262145];
-    let mut out = [0u8; 262400];
+    let mut line = [0u8; 1048577];
+    let mut out = [0u8; 1048832];
     let mut s = Input {
         at: 0,
         end: 0,

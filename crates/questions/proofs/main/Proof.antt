@@ -23,14 +23,14 @@ abbrev Inv-loop : tie.InvT-loop
 Inv-loop chunk₀ line₀ out₀ s₀ turns₀ chunk line out s turns =
     Inside s chunk line
     × (65536 ≡ length chunk)
-    × (262145 ≡ length line)
-    × (262400 ≡ length out)
+    × (1048577 ≡ length line)
+    × (1048832 ≡ length out)
 
 abbrev μ-loop : tie.MeasureT-loop
 μ-loop chunk₀ line₀ out₀ s₀ turns₀ chunk line out s turns = turns
 
 loop-holds : tie.Need-loop-holds Inv-loop μ-loop
-loop-holds c = (nothing-taken _ _, zeros 65536, zeros 262145, zeros 262400)
+loop-holds c = (nothing-taken _ _, zeros 65536, zeros 1048577, zeros 1048832)
 
 loop-again : tie.Need-loop-again Inv-loop μ-loop
 loop-again c = search needs

@@ -1,6 +1,6 @@
 // The line that loopcheck prints, written from the buffer's front on; what is answered is the place behind it. What does not fit is cut
 // off at the buffer's end.
-use crate::answers::looping_line;
+use lines::answers::looping_line;
 use model::LoopAnswer;
 use model::Loops;
 use texts::writing::append_byte;

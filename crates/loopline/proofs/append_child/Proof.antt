@@ -2,8 +2,8 @@
 -- Assumes nothing.
 use Rattle.texts.proofs.Appending.{appended-then}
 use borrow.Author.Needs.{needs}
-use Rattle.lines.proofs.loopcheck.append_child.Statement.{statement}
-use Rattle.lines.proofs.loopcheck.append_child.Tie as tie
+use Rattle.loopline.proofs.append_child.Statement.{statement}
+use Rattle.loopline.proofs.append_child.Tie as tie
 
 returns : tie.Need-returns
 returns c =

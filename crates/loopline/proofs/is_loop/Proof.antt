@@ -2,8 +2,8 @@
 -- Assumes nothing.
 use mathlib.Core.Bool.{and-false}
 use borrow.Author.Needs.{needs}
-use Rattle.lines.proofs.loopcheck.is_loop.Statement.{statement}
-use Rattle.lines.proofs.loopcheck.is_loop.Tie as tie
+use Rattle.loopline.proofs.is_loop.Statement.{statement}
+use Rattle.loopline.proofs.is_loop.Tie as tie
 
 returns : tie.Need-returns
 returns c = rw (c .enum-told .given .1, and-false)

@@ -4,8 +4,8 @@ use mathlib.Core.Path.{sym, _∙_}
 use mathlib.Core.List.{append-nil}
 use Rattle.texts.proofs.Appending.{appended-then}
 use borrow.Author.Needs.{needs}
-use Rattle.lines.proofs.loopcheck.loopcheck_line.Statement.{statement}
-use Rattle.lines.proofs.loopcheck.loopcheck_line.Tie as tie
+use Rattle.loopline.proofs.loopcheck_line.Statement.{statement}
+use Rattle.loopline.proofs.loopcheck_line.Tie as tie
 
 returns : tie.Need-returns
 returns c =

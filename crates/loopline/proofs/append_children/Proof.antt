@@ -5,11 +5,11 @@ use mathlib.Core.Path.{_≡_, _∙_}
 use lib.ListN.{length, take}
 use Rattle.texts.specs.Texts.{Appended}
 use Rattle.texts.proofs.Appending.{appended-none, appended-then, appended-same}
 use Rattle.lines.specs.Lines.{child-fields}
 use Rattle.lines.proofs.LineLaws.{one-more, no-more}
 use borrow.Author.Needs.{needs}
-use Rattle.lines.proofs.loopcheck.append_children.Statement.{statement}
-use Rattle.lines.proofs.loopcheck.append_children.Tie as tie
+use Rattle.loopline.proofs.append_children.Statement.{statement}
+use Rattle.loopline.proofs.append_children.Tie as tie
 
 abbrev Inv-loop : tie.InvT-loop
 Inv-loop out₀ at list end₀ i₀ out end i = (i ≤ length list / 2) × (length out ≡ length out₀) × Appended out₀ out at (child-fields (take (2 * i) list)) end
