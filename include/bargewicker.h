@@ -1,11 +1,12 @@
 /*
- * Bargewicker for C: five questions about class sheets, the binary form of a node class.
+ * Bargewicker for C: six questions, five about class sheets, the binary form of a node class, and one that makes a sheet of a class
+ * text, the form in which editors write it.
  *
  * Link with libbw.a, which 'rt staticlib bw' writes for x86-64 Linux to target/staticlib/.
  *
- * Nothing is asked of a call but that each pointer points at as many bytes as the length behind it says, and that the buffer 'out'
- * overlaps neither the sheet nor the child list. Any bytes and any numbers get an answer, and always the same one. A refusal writes
- * nothing, and bytes of the buffer behind those written are kept. No function keeps a pointer, allocates, or calls anything.
+ * Nothing is asked of a call but that each pointer points at as many bytes as the length behind it says, and that a buffer to be
+ * written overlaps nothing else that is lent. Any bytes and any numbers get an answer, and always the same one. A refusal writes
+ * nothing, and bytes of a buffer behind those written are kept. No function keeps a pointer, allocates, or calls anything.
  *
  * Each function returns one word. Bits 0 to 7 are the refusal, 0 for none. Where there is none, bits 8 to 15 are the kind of the
  * answer, and the fields of that kind follow; every other bit is 0:
@@ -22,6 +23,9 @@
  *               1 handled      16-23 state, 32-63 bytes written
  *   loop        0 free         24-31 moves
  *               1 loop         16-23 state, 32-63 configuration
+ *   read        0 read         16-23 own states, 32-63 length of the sheet
+ *
+ * Of the refusals only BW_WRONG_WORD has a field: bits 8 to 63 are its place in the text, modulo 2^56.
  *
  * The functions bw_refusal, bw_kind and so on below read one field each.
  */
@@ -35,7 +39,8 @@
 extern "C" {
 #endif
 
-/* Refusals. Each is given only where none before it is. 1 to 9 are the sheet's own; a question adds the ones named with it. */
+/* Refusals. Each is given only where none before it is; those of a class text come in the order 16, 17, 18, 15. 1 to 9 are the
+ * sheet's own; a question adds the ones named with it. */
 enum {
     BW_NOT_REFUSED = 0,
     BW_SHEET_LENGTH = 1,     /* under 24 or over 18,616 bytes */
@@ -52,7 +57,10 @@ enum {
     BW_ASKED_COMMAND = 12,   /* the asked command is over 63 */
     BW_PRESENT_BIT = 13,     /* a present bit is not below the number of child classes */
     BW_NAME_COUNT = 14,      /* the present classes have more than 20 names together */
-    BW_ROOM = 15             /* the buffer is too short */
+    BW_ROOM = 15,            /* a buffer is too short */
+    BW_WRONG_WORD = 16,      /* a word that cannot stand where it does, or the text is cut short */
+    BW_NAMING = 17,          /* a lent list is not right, or the text has a name that is not known or stands twice */
+    BW_LIMIT = 18            /* more than a sheet can hold, or a child class with an empty set */
 };
 
 /* Kinds of answers, by question. */
@@ -86,6 +94,18 @@ uint64_t bw_command(const uint8_t *sheet, size_t sheet_length, const uint8_t *ch
  * and name, for each set bit of the configuration (bw_loop_written). Free: the largest number of moves that a phase makes.
  * Refusals 1 to 9, 13, 14, and 15 where the buffer has not two bytes for each name of the present classes; 40 are always enough. */
 uint64_t bw_loop(const uint8_t *sheet, size_t sheet_length, uint8_t present, uint8_t *out, size_t room);
+
+/* Which class is this text? Where it is read, its sheet stands at the head of one buffer, ready for the questions above, and the names of
+ * its own states at the head of the other, 32 bytes each.
+ * The text is read with three lists; an entry's number is its place in its list, from 0. A name is always 32 bytes: 1 to 31 letters, digits
+ * or underscores, and zeros. Names of the children's states: 32 bytes an entry. Commands: 32 bytes an entry. Child classes: 36 bytes an
+ * entry, the name and the set of the class's state names, four bytes, low byte first, bit n for name n. A list may have no entry.
+ * Refusals 16, whose place is the start of the first word that cannot stand there, or the text's length where it is cut short; 17; 18; and
+ * 15 where a buffer is too short. 18,616 bytes for the sheet and 1,024 for the table are always enough. docs/TEXT.md has the grammar, and
+ * all that 17 and 18 are given for. */
+uint64_t bw_read_class(const uint8_t *text, size_t text_length, const uint8_t *names, size_t names_length, const uint8_t *commands,
+                       size_t commands_length, const uint8_t *classes, size_t classes_length, uint8_t *sheet, size_t sheet_room,
+                       uint8_t *table, size_t table_room);
 
 /* A field of a word: width bits, from bit lowest on. */
 static inline uint32_t bw_field(uint64_t word, unsigned lowest, unsigned width)
@@ -126,6 +146,11 @@ static inline uint32_t bw_loop_written(uint64_t word)
     for (; rest != 0; rest &= rest - 1) bytes += 2;
     return bytes;
 }
+
+/* A class text: the place of BW_WRONG_WORD; where it was read, the length of its sheet and the number of its own states. */
+static inline uint64_t bw_read_place(uint64_t word) { return word >> 8; }
+static inline uint32_t bw_read_length(uint64_t word) { return bw_field(word, 32, 32); }
+static inline uint32_t bw_read_states(uint64_t word) { return bw_field(word, 16, 8); }
 
 #ifdef __cplusplus
 }

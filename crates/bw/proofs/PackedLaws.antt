@@ -1,4 +1,4 @@
--- Laws about specs/Packed.antt: the word of each answer's numbers, as the exported functions compute it.
+-- Laws about specs/Packed.antt and specs/PackedReading.antt: the word of each answer's numbers, as the exported functions compute it.
 -- Assumes nothing.
 use Prim.Native.Nat.{ℕ, _+_, _*_, _%_, _<_, _≤_}
 use native.Mathlib.Omega.{arith}
@@ -15,9 +15,15 @@ use Rattle.model.specs.Answers.{ending-as}
 use Rattle.model.specs.declared.Ending.{Ending}
 use Rattle.model.specs.declared.Ending.the-variants.{ByNone, ByStay, ByDo}
 use Rattle.model.specs.Values.{referrer-values, settled-values}
+use Rattle.model.specs.declared.ReadAnswer.{ReadAnswer}
+use Rattle.model.specs.declared.ReadAnswer.the-variants.{Refused, WrongWord, Read}
+use Rattle.readings.specs.Readings.{Lent, Outcome, reading-numbers}
+use Rattle.readings.specs.Promise.{reading-as, Answered}
+use Rattle.readings.proofs.ReadLaws.{reads}
 use Rattle.bargewicker.specs.Questions.{Question}
 use Rattle.bargewicker.specs.Promises.{AnswerTo, numbers-of, Promised}
 use Rattle.bw.specs.Packed.{Field, side-by-side, fields, word, kinds, packed, kinds-of-probe, kinds-of-phase, kinds-of-command, kinds-of-loop, Returned, OneWordAndBuffer}
+use Rattle.bw.specs.PackedReading.{packed-reading, ReturnedReading, OneWordAndBuffers}
 
 -- the largest number of a refusal is 18
 small : (x : Refusal) → number-of x ≤ 18
@@ -100,3 +106,27 @@ returned q a w after e h = record { word-is = e ∙ ap (word (kinds q)) (h .numb
 -- the promise leaves one word and one content of the buffer
 pub one-word-and-buffer : OneWordAndBuffer
 one-word-and-buffer q r s x y f g = (f .word-is ∙ sym (g .word-is), f .buffer-is ∙ sym (g .buffer-is))
+
+-- a class text: refused, 16 with its place, or read
+module _ (a : ReadAnswer) where
+  pub word-unread : (x : Refusal) (r : ℕ) → r ≡ number-of x → a ≡ Refused x → r ≡ packed-reading (reading-as a)
+  unfolding packed-reading reading-numbers side-by-side
+  word-unread x r e f = rw f (let l = small x in omega arith)
+
+  pub word-wrong : (p : ℕ) → a ≡ WrongWord p → 16 + p % 72057594037927936 * 256 ≡ packed-reading (reading-as a)
+  unfolding packed-reading reading-numbers side-by-side
+  word-wrong p f = rw f (omega arith)
+
+  pub word-read : (l s : ℕ) → a ≡ Read l s → s % 256 * 65536 + l % 4294967296 * 4294967296 ≡ packed-reading (reading-as a)
+  unfolding packed-reading reading-numbers side-by-side
+  word-read l s f = rw f (omega arith)
+
+-- the word of what a class text is answered
+pub returned-reading : (q : Lent) (a : ReadAnswer) (w : ℕ) (sheet table : List ℕ) → w ≡ packed-reading (reading-as a) → Answered q a sheet table → ReturnedReading q w sheet table
+returned-reading q a w sheet table e h = record { reading = reading-as a; answers = h; word-is = e }
+
+-- the promise leaves one word and one content of each buffer
+pub one-word-and-buffers : OneWordAndBuffers
+one-word-and-buffers q r s x y u v f g =
+    let e = reads .one .one-answer q _ _ (f .answers) (g .answers) in
+    (f .word-is ∙ ap (λ (o : Outcome). packed-reading (o .reading)) e ∙ sym (g .word-is), ap (λ (o : Outcome). o .sheet) e, ap (λ (o : Outcome). o .table) e)

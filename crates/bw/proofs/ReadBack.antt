@@ -27,7 +27,7 @@ unfolding unpacked
 given k ks w n e f = rw (e, f)
 
 -- a field is read back from a word in which it stands between what is above and what is below it
-between : (f : Field) (w above n below : ℕ) → w ≡ (above * 2 ^ f .width + n) * 2 ^ f .lowest + below → below < 2 ^ f .lowest → n < 2 ^ f .width → read w f ≡ n
+pub between : (f : Field) (w above n below : ℕ) → w ≡ (above * 2 ^ f .width + n) * 2 ^ f .lowest + below → below < 2 ^ f .lowest → n < 2 ^ f .width → read w f ≡ n
 between f w above n below e l m =
     ap (λ (x : ℕ). x / 2 ^ f .lowest % 2 ^ f .width) e ∙ ap (λ (x : ℕ). x % 2 ^ f .width) (digits-div (above * 2 ^ f .width + n) l) ∙ digits-mod above m
 

@@ -1,5 +1,6 @@
 // The face for C: each question as an exported function that returns one word. A slice is a pointer and a length to C; nothing more is
-// asked of the caller, and a refusal writes nothing. What a word holds is in specs/Packed.antt, and for C in include/bargewicker.h.
+// asked of the caller, and a refusal writes nothing. What a word holds is in specs/Packed.antt, of a class text in
+// specs/PackedReading.antt, and for C in include/bargewicker.h.
 use model::CommandAnswer;
 use model::Ending;
 use model::Handling;
@@ -11,6 +12,7 @@ use model::Phase;
 use model::PhaseAnswer;
 use model::ProbeAnswer;
 use model::Probed;
+use model::ReadAnswer;
 use model::Referrer;
 use model::refusal_number;
 ghost use mathlib.Core.Path.{_≡_};
@@ -18,7 +20,9 @@ ghost use mathlib.Core.List.{[], _∷_};
 ghost use Rattle.model.specs.Values.{probed-values, settled-values, phase-values};
 ghost use Rattle.model.specs.Answers.{probed-as, ending-as, phase-as, handled-values, looped-values, judge-numbers, probe-numbers, phase-numbers, command-numbers, loop-numbers};
 ghost use Rattle.bargewicker.specs.Questions.{judge, probe-in, phase-from, command-in, loop-with};
+ghost use Rattle.readings.specs.Promise.{asked, reading-as};
 ghost use Rattle.bw.specs.Packed.{word, kinds-of-probe, kinds-of-phase, kinds-of-command, kinds-of-loop, Returned};
+ghost use Rattle.bw.specs.PackedReading.{packed-reading, ReturnedReading};
 
 // A value times one of these stands in its field of the word.
 const KIND: u64 = 0x100;
@@ -38,6 +42,12 @@ const WRITTEN: u64 = 0x100000000;
 const CONFIGURATION: u64 = 0x100000000;
 
 const TARGET: u64 = 0x10000000000;
+
+const PLACE: u64 = 0x100;
+
+const STATES: u64 = 0x10000;
+
+const LENGTH: u64 = 0x100000000;
 
 // Is this byte string a class sheet?
 #[no_mangle]
@@ -83,6 +93,21 @@ pub extern "C" fn bw_loop(sheet: &[u8], present: u8, out: &mut [u8]) -> u64
     ensures { λ r. ⌜ Returned (loop-with (now (sheet .entry)) present (now (out .entry))) r (now (out .exit)) ⌝ }
 {
     pack_loop(bargewicker::loop_question(sheet, present, out))
+}
+
+// Which class is this text? Its sheet and its table of own states go to the lent buffers.
+#[no_mangle]
+pub extern "C" fn bw_read_class(
+    text: &[u8],
+    names: &[u8],
+    commands: &[u8],
+    classes: &[u8],
+    sheet: &mut [u8],
+    table: &mut [u8],
+) -> u64
+    ensures { λ r. ⌜ ReturnedReading (asked (now (text .entry)) (now (names .entry)) (now (commands .entry)) (now (classes .entry)) (now (sheet .entry)) (now (table .entry))) r (now (sheet .exit)) (now (table .exit)) ⌝ }
+{
+    pack_reading(bargewicker::read_class(text, names, commands, classes, sheet, table))
 }
 
 // The word of each answer: a refusal's number, or what is given.
@@ -192,5 +217,17 @@ fn pack_loops(loops: Loops) -> u64
     match loops {
         Loops::Loop(k, q) => KIND + (q.0 as u64) * STATE + (k as u64) * CONFIGURATION,
         Loops::Free(m) => (m as u64) % 256 * MOVES,
+    }
+}
+
+// A class text: refused, 16 with its place, or read.
+fn pack_reading(answer: ReadAnswer) -> u64
+    ensures { λ r. ⌜ r ≡ packed-reading (reading-as answer) ⌝ }
+{
+    match answer {
+        ReadAnswer::Refused(x) => refusal_number(x),
+        ReadAnswer::WrongWord(place) => 16 + (place as u64) % 0x100000000000000 * PLACE,
+        ReadAnswer::Read(length, states) => (states as u64) % 256 * STATES
+            + (length as u64) % 4294967296 * LENGTH,
     }
 }
