@@ -1,0 +1,32 @@
+use Prim.Native.Nat.{_-_}
+use mathlib.Core.Path.{sym, _∙_}
+use lib.ListN.{length}
+use borrow.Author.Needs.{needs}
+use Rattle.classfile.proofs.FieldLaws.{Running, run-none, run-on, run-found, run-over}
+use Rattle.classfile.proofs.fields.word_end.Statement.{statement}
+use Rattle.classfile.proofs.fields.word_end.Tie as tie
+
+abbrev Inv-loop : tie.InvT-loop
+Inv-loop file at i₀ i = Running file at i
+
+abbrev μ-loop : tie.MeasureT-loop
+μ-loop file at i₀ i = length file - i
+
+loop-holds : tie.Need-loop-holds Inv-loop μ-loop
+loop-holds c = run-none _ _ (c .before .pre)
+
+returns : tie.Need-returns Inv-loop μ-loop
+returns c =
+    let w = c .before .before in
+    run-found _ _ _ (w .before .before .loop .inv) (w .before .loop-test .taken) (sym (c .before .is-white .ensures) ∙ c .if1 .taken)
+
+loop-again : tie.Need-loop-again Inv-loop μ-loop
+loop-again c =
+    let w = c .before .before in
+    run-on _ _ _ (w .before .before .loop .inv) (w .before .loop-test .taken) (sym (c .before .is-white .ensures) ∙ c .if1 .left)
+
+returns-2 : tie.Need-returns-2 Inv-loop μ-loop
+returns-2 c = run-over _ _ _ (c .before .loop .inv) (c .loop-test .left)
+
+pub word-end-spec : {M : Type 1} → statement M
+word-end-spec = tie.close (tie.spec Inv-loop μ-loop (λ c. search needs) loop-holds (λ c. search needs) (λ c κs. search needs) returns (λ c. search needs) (λ c. search needs) loop-again returns-2)
