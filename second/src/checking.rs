@@ -3,11 +3,9 @@
 use crate::answering::answer_line;
 use std::collections::BTreeMap;
 
-/// Every refusal number must be hit this often: 1 to 15 in a run of so many questions, at least half of them about sheets; 15 to 18 of
-/// reading questions where so many of those were compared.
+/// In a run of so many questions every refusal number must be hit this often: 1 to 15 by questions about sheets, 15 to 18 by texts.
 const FLOOR: usize = 50;
 const FULL_RUN: usize = 20_000;
-const FULL_READING: usize = 5_000;
 const LAST_NUMBER: usize = 18;
 
 /// How many differences are printed, and how much of a line.
@@ -98,27 +96,15 @@ impl Tally {
         for number in 1..=15 {
             println!("  {number:<34}{:>8}", self.refusals[number]);
         }
-        for number in (15..=LAST_NUMBER).filter(|_| self.sizes().1 > 0) {
+        for number in 15..=LAST_NUMBER {
             println!("  {number:<2} of reading questions{:>19}", self.reading_refusals[number]);
         }
     }
 
-    /// How many questions of all kinds were counted, and how many of them were reading questions.
-    fn sizes(&self) -> (usize, usize) {
-        (self.questions.values().sum(), self.questions.get("read").copied().unwrap_or(0))
-    }
-
-    /// Is something asked of the refusal numbers 1 to 15, and of those of reading questions?
-    fn full(&self) -> (bool, bool) {
-        let (all, reading) = self.sizes();
-        (all >= FULL_RUN && all - reading >= FULL_RUN / 2, reading >= FULL_READING)
-    }
-
-    /// The refusal numbers that were hit too seldom, of those that something is asked of.
+    /// The refusal numbers that were hit too seldom.
     fn seldom(&self) -> Vec<usize> {
-        let (sheets, reading) = self.full();
-        let few = (1..16).filter(|number| sheets && self.refusals[*number] < FLOOR);
-        few.chain((15..=LAST_NUMBER).filter(|number| reading && self.reading_refusals[*number] < FLOOR)).collect()
+        let few = (1..16).filter(|number| self.refusals[*number] < FLOOR);
+        few.chain((15..=LAST_NUMBER).filter(|number| self.reading_refusals[*number] < FLOOR)).collect()
     }
 }
 
@@ -135,10 +121,11 @@ pub fn check(questions: &[u8], answers: &[u8]) -> bool {
         println!("second: {} questions, but {} answers", questions.len(), answers.len());
         good = false;
     }
-    if tally.full() == (false, false) {
+    let full = questions.len().min(answers.len()) >= FULL_RUN;
+    if !full {
         println!("second: fewer than {FULL_RUN} questions, so nothing is asked of the refusal numbers");
     }
-    if !tally.seldom().is_empty() {
+    if full && !tally.seldom().is_empty() {
         println!("second: hit fewer than {FLOOR} times: refusal numbers {:?}", tally.seldom());
         good = false;
     }

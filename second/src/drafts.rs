@@ -67,8 +67,17 @@ fn shuffled(random: &mut Random, count: usize) -> Vec<u8> {
     (0..count).map(|_| left.remove(random.below(left.len()))).collect()
 }
 
+/// Keeps the commands that a class sends below a number, most often a small one.
+fn fold_sends(random: &mut Random, class: &mut Class) {
+    let count = random.pick(&[2, 3, 5, MOST_COMMANDS as u8]);
+    for action in class.states.iter_mut().flat_map(|state| &mut state.actions) {
+        change_statements(&mut action.body, &mut |_| {}, &mut |command| *command %= count);
+    }
+}
+
 /// Gives the commands of a class the lowest numbers in some order, now and then with a few that are not used; gives how many there are.
 fn fold_commands(random: &mut Random, class: &mut Class) -> usize {
+    fold_sends(random, class);
     let mut used = BTreeSet::new();
     change_class(class, &mut |_| {}, &mut |command| { used.insert(*command); });
     let used: Vec<u8> = used.into_iter().collect();
@@ -106,9 +115,17 @@ fn share_word(random: &mut Random, draft: &mut Draft) {
     }
 }
 
+/// Does a class have so much in it that its text should have short names?
+fn is_large(class: &mut Class) -> bool {
+    let (mut atoms, mut commands) = (0, 0);
+    change_class(class, &mut |_| atoms += 1, &mut |_| commands += 1);
+    atoms + commands > 60
+}
+
 /// A class with random names.
 pub fn draft(random: &mut Random, mut class: Class) -> Draft {
     let naming = match random.below(9) {
+        _ if is_large(&mut class) => Naming::Short,
         0..=2 => Naming::Common,
         3 | 4 => Naming::Short,
         5..=7 => Naming::Mixed,

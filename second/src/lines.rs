@@ -2,7 +2,9 @@
 
 use crate::reading::Lent;
 
-pub const LONGEST_LINE: usize = 262_144;
+/// The longest line that can be a question; and what it once was: lines about as long must still be taken.
+pub const LONGEST_LINE: usize = 1_048_576;
+pub const FORMER_LONGEST_LINE: usize = 262_144;
 
 /// One of the six questions, with what it is asked about.
 #[derive(Clone, Debug, PartialEq)]

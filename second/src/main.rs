@@ -7,6 +7,8 @@ mod chart;
 mod checking;
 mod damage;
 mod drafts;
+mod examples;
+mod fault_pairs;
 mod grammar;
 mod judging;
 mod limits;
@@ -22,6 +24,7 @@ mod printing;
 mod random;
 mod reading;
 mod shapes;
+mod tallying;
 #[cfg(test)]
 mod tests;
 mod text;
@@ -39,7 +42,8 @@ use std::process::ExitCode;
 const USAGE: &str = "usage: second make SEED COUNT            writes question lines
        second make-texts SEED COUNT      writes lines of reading questions alone
        second answer                     reads question lines, writes the answers
-       second check QUESTIONS ANSWERS    compares the answers in a file with its own";
+       second check QUESTIONS ANSWERS    compares the answers in a file with its own
+       second tally QUESTIONS            counts what the questions in a file ask";
 
 /// Writes the questions of a run, each made from the seed and its number.
 fn make(one: fn(u64, u64) -> Vec<u8>, seed: &str, count: &str) -> Result<ExitCode, Error> {
@@ -70,6 +74,12 @@ fn check(questions: &str, answers: &str) -> Result<ExitCode, Error> {
     Ok(if good { ExitCode::SUCCESS } else { ExitCode::from(1) })
 }
 
+/// Counts what the questions in a file ask.
+fn tally(questions: &str) -> Result<ExitCode, Error> {
+    tallying::tally(&std::fs::read(questions)?);
+    Ok(ExitCode::SUCCESS)
+}
+
 /// Does what the words of the command line ask.
 fn main() -> ExitCode {
     let words: Vec<String> = std::env::args().skip(1).collect();
@@ -79,6 +89,7 @@ fn main() -> ExitCode {
         ["make-texts", seed, count] => make(making_texts::make_line, seed, count),
         ["answer"] => answer(),
         ["check", questions, answers] => check(questions, answers),
+        ["tally", questions] => tally(questions),
         _ => Err(Error::other(USAGE)),
     };
     done.unwrap_or_else(|error| {

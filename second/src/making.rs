@@ -5,22 +5,20 @@ use crate::behaviour::{command, phase, Child, Phase};
 use crate::damage::{damage_contents, damage_length, damage_records, shift_counts};
 use crate::judging::judge;
 use crate::limits::{guards_of_depth, ifs_of_depth, large, many_names, pinned, shared};
-use crate::lines::Question;
+use crate::lines::{Question, FORMER_LONGEST_LINE, LONGEST_LINE};
 use crate::making_texts;
 use crate::random::Random;
 use crate::shapes::{class, Shape, Style, BUSY, CROWD, LADDER, RING, ROUND, SMALL, TALL, WHOLE};
 use crate::tree::{Class, Names};
 use crate::writing::bodies_of;
 
-/// A line of so many bytes was once the longest; lines about as long must still be taken.
-const FORMER_LONGEST_LINE: usize = 262_144;
-
-/// So many of each hundred questions, those that take long left out, are reading questions.
-const READING_IN_A_HUNDRED: usize = 0;
+/// So many of each hundred questions, those that have their turn left out, are reading questions.
+const READING_IN_A_HUNDRED: usize = 20;
 const READING_SEED: u64 = 0x4EAD_1000_0000_0000;
 
-/// Every so many questions comes one that takes long to answer or to send.
+/// Every so many questions comes one about a sheet that takes long to answer or to send, and a long text; and so often a worked text.
 const HEAVY_EVERY: u64 = 500;
+const WORKED_EVERY: u64 = 150;
 
 /// The line of one question of a run.
 pub fn make_line(seed: u64, index: u64) -> Vec<u8> {
@@ -28,8 +26,14 @@ pub fn make_line(seed: u64, index: u64) -> Vec<u8> {
     if index % HEAVY_EVERY == HEAVY_EVERY / 2 {
         return heavy(random, index / HEAVY_EVERY).line().into_bytes();
     }
+    if index % HEAVY_EVERY == 0 {
+        return making_texts::long_line(seed, index, index / HEAVY_EVERY);
+    }
+    if index % WORKED_EVERY == 75 {
+        return making_texts::worked_line(seed, index, index / WORKED_EVERY);
+    }
     if Random::for_question(seed ^ READING_SEED, index).chance(READING_IN_A_HUNDRED) {
-        return making_texts::make_line(seed, index);
+        return making_texts::mixed_line(seed, index);
     }
     let question = match random.below(200) {
         0..=69 => accepted(random),
@@ -244,9 +248,10 @@ fn heavy(random: &mut Random, turn: u64) -> Question {
         15..=17 => early_loop(random, 20),
         18 => early_loop(random, 19),
         19 => on_names(random, 21, &few),
-        20 => brimful(random, 0),
-        21 => brimful(random, 1),
-        22 => brimful(random, 2),
+        20 => brimful(random, LONGEST_LINE),
+        21 => brimful(random, LONGEST_LINE + 1),
+        22 => brimful(random, FORMER_LONGEST_LINE),
+        23 => brimful(random, FORMER_LONGEST_LINE + 1),
         _ => long_list(random),
     }
 }
@@ -271,13 +276,13 @@ fn early_loop(random: &mut Random, total: usize) -> Question {
     }
 }
 
-/// A loop question on a line that is this much longer than a line might once be.
-fn brimful(random: &mut Random, excess: usize) -> Question {
+/// A loop question on a line of this length; two digits for the present classes make it odd.
+fn brimful(random: &mut Random, length: usize) -> Question {
     let class = class(random, &RING);
     let sheet = bodies_of(&class, true).sheet();
-    let present = if excess % 2 == 0 { 1 } else { 10 };
+    let present = if length % 2 == 0 { 1 } else { 10 };
     let bare = Question::Loop { sheet: sheet.clone(), present, buffer: vec![0] }.line().len() - 2;
-    let buffer = random.bytes((FORMER_LONGEST_LINE + excess - bare) / 2);
+    let buffer = random.bytes((length - bare) / 2);
     Question::Loop { sheet, present, buffer }
 }
 

@@ -1,6 +1,8 @@
 //! The mix of reading questions.
 
 use crate::drafts::{draft, lists};
+use crate::examples::worked;
+use crate::fault_pairs::fault_pair;
 use crate::lines::Question;
 use crate::long_texts::long_text;
 use crate::making::spoil_line;
@@ -17,15 +19,16 @@ use crate::writing::{bodies_of, CLASSES, RECORD};
 /// Reading questions have their own random numbers.
 const TEXT_SEED: u64 = 0x7E87_0000_0000_0000;
 
-/// Every so many questions comes a long one.
-const LONG_EVERY: u64 = 250;
+/// Where reading questions are alone, every so many of them comes a long one, and so often a worked example.
+const LONG_EVERY: u64 = 125;
+const WORKED_EVERY: u64 = 40;
 
 /// Classes whose texts are short: with a state or two and little in them, with something of everything, with guards, with statements,
 /// with several states.
 const TINY: Shape = Shape { states: (1, 2), clauses: (0, 2), depth: 2, actions: (0, 1), statements: (0, 2), ..SMALL };
 const MIDDLING: Shape = Shape { states: (1, 3), clauses: (1, 2), depth: 2, actions: (1, 2), statements: (0, 2), ..WHOLE };
-const GUARDED: Shape = Shape { states: (1, 2), clauses: (1, 3), depth: 4, actions: (0, 1), statements: (0, 1), ..SMALL };
-const ACTIVE: Shape = Shape { classes: (0, 4), states: (1, 1), clauses: (0, 1), actions: (1, 4), statements: (0, 4), ..SMALL };
+const GUARDED: Shape = Shape { states: (1, 2), clauses: (1, 2), depth: 4, actions: (0, 1), statements: (0, 1), ..SMALL };
+const ACTIVE: Shape = Shape { classes: (0, 4), states: (1, 1), clauses: (0, 1), depth: 2, actions: (1, 3), statements: (0, 4), ..SMALL };
 const SEVERAL: Shape = Shape { states: (2, 9), clauses: (0, 1), depth: 1, actions: (0, 2), statements: (0, 1), ..SMALL };
 
 /// A reading question that is being made: the words, the lists, and the class that they stand for.
@@ -46,15 +49,34 @@ struct Faults {
 
 const NONE: Faults = Faults { text: false, names: false, limits: false, room: false };
 
-/// The line of one reading question of a run.
+/// The line of one question of a run of reading questions alone.
 pub fn make_line(seed: u64, index: u64) -> Vec<u8> {
-    let random = &mut Random::for_question(seed ^ TEXT_SEED, index);
-    if index % LONG_EVERY == LONG_EVERY / 2 {
-        return Question::Read(long_text(random, index / LONG_EVERY)).line().into_bytes();
+    if index % LONG_EVERY == 0 {
+        return long_line(seed, index, index / LONG_EVERY);
     }
+    if index % WORKED_EVERY == 21 {
+        return worked_line(seed, index, index / WORKED_EVERY);
+    }
+    mixed_line(seed, index)
+}
+
+/// The line of the long text of this turn.
+pub fn long_line(seed: u64, index: u64, turn: u64) -> Vec<u8> {
+    Question::Read(long_text(&mut Random::for_question(seed ^ TEXT_SEED, index), turn)).line().into_bytes()
+}
+
+/// The line of the worked example of this turn.
+pub fn worked_line(seed: u64, index: u64, turn: u64) -> Vec<u8> {
+    Question::Read(worked(&mut Random::for_question(seed ^ TEXT_SEED, index), turn)).line().into_bytes()
+}
+
+/// The line of a reading question of any other kind.
+pub fn mixed_line(seed: u64, index: u64) -> Vec<u8> {
+    let random = &mut Random::for_question(seed ^ TEXT_SEED, index);
     let lent = match random.below(200) {
-        0..=49 => good(random),
-        50..=67 => at_limit(random),
+        0..=48 => good(random),
+        49..=55 => fault_pair(random),
+        56..=67 => at_limit(random),
         68..=92 => faulty(random, Faults { room: true, ..NONE }),
         93..=130 => faulty(random, Faults { text: true, ..NONE }),
         131..=157 => faulty(random, Faults { names: true, ..NONE }),
@@ -64,9 +86,7 @@ pub fn make_line(seed: u64, index: u64) -> Vec<u8> {
         194 | 195 => noise(random),
         196 if random.chance(40) => large(random),
         196 => good(random),
-        _ => {
-            return bad_line(random);
-        }
+        _ => return bad_line(random),
     };
     Question::Read(lent).line().into_bytes()
 }
@@ -89,7 +109,7 @@ fn asked(random: &mut Random, class: Class) -> Asked {
 
 /// A random class that keeps the limits.
 fn some_class(random: &mut Random) -> Class {
-    let shape = random.pick(&[TINY, TINY, TINY, MIDDLING, MIDDLING, GUARDED, GUARDED, ACTIVE, ACTIVE, SEVERAL, SEVERAL, SMALL]);
+    let shape = random.pick(&[TINY, TINY, TINY, TINY, MIDDLING, GUARDED, GUARDED, ACTIVE, ACTIVE, SEVERAL, SEVERAL]);
     let classes = if random.chance(10) { (5, 8) } else { shape.classes };
     class(random, &Shape { classes, ..shape })
 }
@@ -128,7 +148,7 @@ fn lengths(random: &mut Random, asked: &Asked, too_short: bool) -> (usize, usize
 
 /// The question, in a random layout.
 fn lent(random: &mut Random, asked: Asked, too_short: bool) -> Lent {
-    let white = white(random);
+    let white = white(random, asked.pieces.len());
     let text = layout(random, white, &asked.pieces);
     let (sheet, table) = lengths(random, &asked, too_short);
     let (sheet, table) = (random.bytes(sheet), random.bytes(table));
@@ -157,7 +177,7 @@ fn at_limit(random: &mut Random) -> Lent {
 /// Words and lists that pass a limit: of the text, of the lists, or by an empty name set.
 fn past_limit(random: &mut Random) -> Asked {
     let kind = random.below(10);
-    let past = random.pick(&[1, 1, 1, 1, 2, 7]);
+    let past = random.pick(&[1, 1, 1, 1, 1, 2]);
     let class = if kind < 5 { near_limit(random, past) } else { some_class(random) };
     let mut asked = asked(random, class);
     match kind {

@@ -57,16 +57,16 @@ fn part_record(random: &mut Random, lists: &mut [Vec<u8>; 3]) {
 /// Spoils the name of a record in one of the ways in which a record is ill-formed.
 fn spoil_record(random: &mut Random, record: &mut [u8]) {
     let length = record.iter().position(|byte| *byte == 0).unwrap_or(NAME_RECORD);
-    match random.below(7) {
-        0 => record[..NAME_RECORD].fill(0),
-        1 => {
+    match random.below(11) {
+        0 | 1 => record[..NAME_RECORD].fill(0),
+        2 | 3 => {
             let name = run(random, NAME_RECORD);
             record[..NAME_RECORD].copy_from_slice(&name);
         }
-        2 => record[random.below(length.max(1))] = random.pick(b"-& .$\x80:\xff\x01"),
-        3 => record[random.between((length + 1).min(NAME_RECORD - 1), NAME_RECORD - 1)] = random.pick(b"A_0 \x01\xff"),
-        4 => record[NAME_RECORD - 1] = random.pick(b"A9_"),
-        5 => record[0] = 0,
+        4 | 5 => record[random.below(length.max(1))] = random.pick(b"-& .$\x80:\xff\x01"),
+        6 => record[random.between((length + 1).min(NAME_RECORD - 1), NAME_RECORD - 1)] = random.pick(b"A_0 \x01\xff"),
+        7 => record[NAME_RECORD - 1] = random.pick(b"A9_"),
+        8 => record[0] = 0,
         _ => record[..NAME_RECORD].copy_from_slice(&name_record(random.pick(&RESERVED).as_bytes())),
     }
 }
@@ -76,7 +76,7 @@ fn ill_formed(random: &mut Random, lists: &mut [Vec<u8>; 3]) {
     let list = random.below(3);
     let size = SIZES[list];
     let mut at = random.below((lists[list].len() / size).max(1));
-    if lists[list].len() < size || random.chance(50) {
+    if lists[list].len() < size || random.chance(70) {
         add_record(random, lists, list);
         at = lists[list].len() / size - 1;
     }
@@ -215,14 +215,14 @@ fn do_without_action(random: &mut Random, pieces: &mut Vec<Piece>, lists: &mut [
 
 /// Damages the names of a text or its lists.
 pub fn damage_names(random: &mut Random, pieces: &mut Vec<Piece>, lists: &mut [Vec<u8>; 3]) {
-    match random.below(16) {
+    match random.below(18) {
         0 => part_record(random, lists),
-        1..=3 => ill_formed(random, lists),
-        4 | 5 => name_twice(random, lists),
-        6 => bit_without_name(random, lists),
-        7..=10 => unknown_name(random, pieces, lists),
-        11 | 12 => state_twice(random, pieces),
-        13 => action_twice(random, pieces, lists),
+        1..=5 => ill_formed(random, lists),
+        6 | 7 => name_twice(random, lists),
+        8 => bit_without_name(random, lists),
+        9..=13 => unknown_name(random, pieces, lists),
+        14 | 15 => state_twice(random, pieces),
+        16 => action_twice(random, pieces, lists),
         _ => do_without_action(random, pieces, lists),
     }
 }

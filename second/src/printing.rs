@@ -250,8 +250,11 @@ pub enum White {
     Lines,
 }
 
-/// A random layout.
-pub fn white(random: &mut Random) -> White {
+/// A random layout; of many words one that is not wide.
+pub fn white(random: &mut Random, words: usize) -> White {
+    if words > 300 {
+        return random.pick(&[White::Tight, White::Tight, White::Blank, White::Any]);
+    }
     random.pick(&[White::Tight, White::Blank, White::Any, White::Any, White::Wide, White::Lines])
 }
 

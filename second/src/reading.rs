@@ -116,7 +116,7 @@ fn rule_17(text: &Text, lists: &Lists) -> Result<(), u8> {
 }
 
 /// The most operators on a path of any guard; operands stand before their operators.
-fn operators_on_a_path(guards: &[Guard]) -> usize {
+pub fn operators_on_a_path(guards: &[Guard]) -> usize {
     let mut longest: Vec<usize> = Vec::new();
     for guard in guards {
         longest.push(match guard {
@@ -129,7 +129,7 @@ fn operators_on_a_path(guards: &[Guard]) -> usize {
 }
 
 /// How deep the ifs lie in each other; the statements of an if stand before it.
-fn deepest_if(statements: &[Statement]) -> usize {
+pub fn deepest_if(statements: &[Statement]) -> usize {
     let mut depths: Vec<usize> = Vec::new();
     for statement in statements {
         let inner = |part: &Vec<usize>| part.iter().map(|at| depths[*at]).max().unwrap_or(0);
@@ -141,11 +141,17 @@ fn deepest_if(statements: &[Statement]) -> usize {
     depths.into_iter().max().unwrap_or(0)
 }
 
-/// How many records of each body the text makes, in the order of the contents.
-fn counts(text: &Text, lists: &Lists) -> [usize; 6] {
+/// How many records of each body but the first the text makes, in the order of the contents.
+pub fn counts_of_text(text: &Text) -> [usize; 5] {
     let whens = text.states.iter().map(|state| state.whens.len()).sum();
     let actions = text.states.iter().map(|state| state.actions.len()).sum();
-    [lists.sets.len(), text.states.len(), whens, text.guards.len(), actions, text.statements.len()]
+    [text.states.len(), whens, text.guards.len(), actions, text.statements.len()]
+}
+
+/// How many records each body has.
+fn counts(text: &Text, lists: &Lists) -> [usize; 6] {
+    let [states, whens, guards, actions, statements] = counts_of_text(text);
+    [lists.sets.len(), states, whens, guards, actions, statements]
 }
 
 /// Rule 18: the limits of the lists and of the text, and empty name sets.

@@ -1,7 +1,7 @@
 //! Classes and lists at the limits of what a text may have, from both sides.
 
 use crate::drafts::{class_record, name_record};
-use crate::limits::{guards_of_depth, ifs_of_depth};
+use crate::limits::nest;
 use crate::lists::{CLASS_RECORD, NAME_RECORD};
 use crate::naming::{fresh, Naming};
 use crate::random::Random;
@@ -144,14 +144,25 @@ fn leaning(random: &mut Random, children: &[Names], depth: usize) -> Guard {
     guard
 }
 
+/// A small class with one action clause in each state.
+fn small(random: &mut Random) -> Class {
+    class(random, &Shape { states: (1, 2), clauses: (0, 1), depth: 1, actions: (1, 1), statements: (0, 1), ..WHOLE })
+}
+
+/// A class with ifs that nest this deep.
+fn ifs(random: &mut Random, count: usize) -> Class {
+    let mut class = small(random);
+    let states = class.states.len();
+    let body = nest(random, &class.children, count, states);
+    class.states[random.below(states)].actions[0].body = body;
+    class
+}
+
 /// A class with a guard that has this many operators on a path.
 pub fn depth(random: &mut Random, count: usize) -> Class {
-    if random.chance(30) {
-        return guards_of_depth(random, count);
-    }
-    let mut class = class(random, &Shape { states: (1, 2), clauses: (0, 1), depth: 1, actions: (1, 1), statements: (0, 1), ..WHOLE });
+    let mut class = small(random);
     let children = class.children.clone();
-    let guard = if random.chance(75) { leaning(random, &children, count) } else { deep_guard(random, &children, count) };
+    let guard = if random.chance(65) { leaning(random, &children, count) } else { deep_guard(random, &children, count) };
     if random.chance(50) {
         class.states[0].clauses.push(Clause { guard, referrer: Referrer::Stay });
     } else {
@@ -164,11 +175,11 @@ pub fn depth(random: &mut Random, count: usize) -> Class {
 pub fn near_limit(random: &mut Random, past: usize) -> Class {
     match random.below(24) {
         0..=4 => states(random, 32 + past),
-        5..=12 => depth(random, 16 + past),
-        13..=17 => ifs_of_depth(random, 8 + past),
-        18 => whens(random, 256 + past),
-        19 | 20 => actions(random, 256 + past),
-        21 => statements(random, 1024 + past),
+        5..=11 => depth(random, 16 + past),
+        12..=15 => ifs(random, 8 + past),
+        16 | 17 => whens(random, 256 + past),
+        18 | 19 => actions(random, 256 + past),
+        20 | 21 => statements(random, 1024 + past),
         _ => guard_records(random, 1024 + past),
     }
 }

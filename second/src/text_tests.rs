@@ -3,8 +3,12 @@
 use crate::answering::answer_line;
 use crate::chart::Chart;
 use crate::drafts::{draft, lists, name_record};
+use crate::examples::{about, depths, list, placed, short, CHAMBER, CHAMBER_NAMES, CHAMBER_STATES, EXCERPT, EXCERPT_KIN, EXCERPT_NAMES};
+use crate::examples::{wrong_lists, PLACES, PRESS, READ, REFUSED_17, RPC, STANDBY};
 use crate::limits::{guards_of_depth, ifs_of_depth};
-use crate::lines::{hex, Question};
+use crate::lines::{hex, Question, FORMER_LONGEST_LINE, LONGEST_LINE};
+use crate::long_texts::long_text;
+use crate::making;
 use crate::printing::{layout, manner, pieces, white};
 use crate::random::Random;
 use crate::reading::{read, Lent, Refusal};
@@ -13,21 +17,15 @@ use crate::words::{is_name, words_of, FIXED, NOWHERE, RESERVED};
 use crate::writing::bodies_of;
 use std::collections::HashSet;
 
-/// A list of names, parted by blanks.
-fn list(names: &str) -> Vec<u8> {
-    names.split_whitespace().flat_map(|name| name_record(name.as_bytes())).collect()
-}
-
-/// A list of classes, all with the same name set.
-fn classes(names: &str, set: u32) -> Vec<u8> {
-    names.split_whitespace().flat_map(|name| [name_record(name.as_bytes()), set.to_le_bytes().to_vec()].concat()).collect()
-}
-
 /// A text with its lists, and buffers that are long enough.
 fn lent(text: &str, names: &str, commands: &str, kin: &str) -> Lent {
     let set = ((1u64 << names.split_whitespace().count()) - 1) as u32;
-    let (names, commands, classes) = (list(names), list(commands), classes(kin, set));
-    Lent { text: text.as_bytes().to_vec(), names, commands, classes, sheet: vec![0xaa; 20_000], table: vec![0xbb; 2_000] }
+    roomy(about(text, names, commands, kin, set))
+}
+
+/// The same with buffers that are long enough.
+fn roomy(lent: Lent) -> Lent {
+    Lent { sheet: vec![0xaa; 20_000], table: vec![0xbb; 2_000], ..lent }
 }
 
 /// The numbers of a body of a sheet, each of two bytes, from an offset in each record of this size.
@@ -36,13 +34,6 @@ fn column(sheet: &[u8], body: usize, size: usize, offset: usize) -> Vec<u16> {
     let (start, length) = (usize::from(number(4 * body)), usize::from(number(4 * body + 2)));
     (start..start + length).step_by(size).map(|at| number(at + offset)).collect()
 }
-
-const PRESS: &str = "class: $FWPART_$TOP$PRESS
-  state: READY
-    when ( $ANY$HEATER not_in_state HOT ) move_to HOLD
-  state: HOLD
-    when ( $ANY$HEATER in_state HOT ) move_to READY
-";
 
 const SHEET_A: &str = "180004001c000800240008002c0010003c0000003c000000\
     070000000100000001000000000000010100000001000000020000000000000002000000";
@@ -61,15 +52,6 @@ fn sheet_a() {
     }
 }
 
-const RPC: &str = "class: $FWPART_$TOP$RPC
-  state: ON
-    when ( $ANY$FwCHILDREN in_state ERROR ) move_to ERROR
-    action: RESET
-      do OFF $ALL$FwCHILDREN
-  state: ERROR
-    when ( $ANY$FwCHILDREN in_state ON ) move_to ON
-";
-
 /// Listing 1 of the thesis.
 #[test]
 fn thesis_listing_1() {
@@ -82,60 +64,18 @@ fn thesis_listing_1() {
     assert_eq!(hex(&done.sheet), sheet);
 }
 
-const CHAMBER: &str = "class: $FWPART_$TOP$RPC_Chamber_CLASS
-  state: OFF
-    when ( ( $ANY$FwCHILDREN in_state ERROR ) or
-           ( $ANY$FwCHILDREN in_state TRIPPED ) ) move_to ERROR
-
-    when ( $ANY$RPC_HV in_state {RAMPING_UP,
-                                RAMPING_DOWN} ) move_to RAMPING
-  when ( ( $ALL$RPC_LV in_state ON ) and
-         ( $ALL$RPC_HV in_state STANDBY ) ) move_to STANDBY
-
-  when ( ( $ALL$RPC_HV in_state ON ) and
-         ( $ALL$RPC_LV in_state ON ) ) move_to ON
-
-  when ( ( $ALL$FwCHILDREN in_state ON ) and
-         ( $ALL$RPC_T in_state OK ) ) move_to ON
-
-  action: STANDBY
-    do STANDBY $ALL$RPC_HV
-    do ON $ALL$RPC_LV
-  action: OFF
-    do OFF $ALL$FwCHILDREN
-  action: ON
-    do ON $ALL$FwCHILDREN
-";
-
-const CHAMBER_NAMES: &str = "ERROR TRIPPED RAMPING_UP RAMPING_DOWN ON STANDBY OK";
-
 /// Listing 1 of the article: its states are missing; with them it is read.
 #[test]
 fn article_listing_1() {
     let as_it_stands = lent(CHAMBER, CHAMBER_NAMES, "STANDBY OFF ON", "RPC_HV RPC_LV RPC_T");
     assert_eq!(read(&as_it_stands), Err(Refusal { number: 17, place: None }));
-    let whole = format!("{CHAMBER} state: ERROR state: RAMPING state: STANDBY state: ON");
+    let whole = format!("{CHAMBER} {CHAMBER_STATES}");
     let done = read(&lent(&whole, CHAMBER_NAMES, "STANDBY OFF ON", "RPC_HV RPC_LV RPC_T")).unwrap();
     assert_eq!(done.table, list("OFF ERROR RAMPING STANDBY ON"));
     assert_eq!(column(&done.sheet, 2, 4, 0), [0, 3, 4, 7, 10]);
     assert_eq!(column(&done.sheet, 3, 8, 0).len(), 13);
     assert_eq!(column(&done.sheet, 1, 4, 2), [3, 0, 0, 0, 0]);
 }
-
-const STANDBY: &str = "action: STANDBY
-  do STANDBY $ALL$RPC_HV
-  do ON $ALL$RPC_LV
-  if ( $ALL$RPC_LV in_state ON ) then
-    do ON $ALL$RPC_HV
-    if ( $ALL$RPC_HV in_state ON ) then
-      move_to ON
-    endif
-  else
-    do STANDBY $ALL$RPC_LV
-    do STANDBY $ALL$RPC_HV
-    do STANDBY $ALL$FwCHILDREN
-  endif
-";
 
 /// Listing 2 of the article, inside a class.
 #[test]
@@ -148,24 +88,10 @@ fn article_listing_2() {
     assert_eq!((column(&done.sheet, 5, 8, 2)[2], column(&done.sheet, 5, 8, 2)[4]), (0, 1));
 }
 
-const EXCERPT: &str = "state: ANALOG_ON_RED
-...
-when ( $ANY$TkPowerGroup not_in_state DIGITAL_ON_RED ) move_to LVMIXED
-...
-
-state: LVMIXED
-...
-when ( $ANY$TkPowerGroup in_state {ON, HVMIXED} ) move_to HVMIXED
-when ( $ALL$FwCaenChannelCtrl in_state ON and
-      $ALL$TkPowerGroup in_state ANALOG_ON_RED ) move_to ANALOG_ON_RED
-...
-";
-
 /// Listing 3 of the article: dots stand nowhere; without them it loops as the article says.
 #[test]
 fn article_listing_3() {
-    let names = "ANALOG_ON_RED ON HVMIXED DIGITAL_ON_RED";
-    let kin = "TkPowerGroup FwCaenChannelCtrl";
+    let (names, kin) = (EXCERPT_NAMES, EXCERPT_KIN);
     let dotted = format!("class: $FWPART_$TOP$C {EXCERPT}");
     let place = dotted.find('.');
     assert_eq!(read(&lent(&dotted, names, "", kin)), Err(Refusal { number: 16, place }));
@@ -175,36 +101,50 @@ fn article_listing_3() {
     assert_eq!(answer_line(phase.as_bytes()), "loop 1 3");
 }
 
-/// The places of 16: a caret marks the place; H stands for a class with one state.
+/// The places of 16.
 #[test]
 fn places() {
-    let marked = [
-        "^",
-        "class: $FWPART_$TOP$X ^",
-        "class: $FWPART_$TOP$X ^sta",
-        "class: $FWPART_$TOP$X ^state A",
-        "class: ^$FWPART_$TOP X state: A",
-        "class: $FWPART_$TOP$X state: ^when",
-        "class: $FWPART_$TOP$X state: A^-B",
-        "H ^class: $FWPART_$TOP$Y state: B",
-        "H when ^$any$K in_state P",
-        "H when $ANY$K in_state {P,^}",
-        "H when ( $ANY$K in_state P ^move_to A",
-        "H when $ANY$K in_state P ^) move_to A",
-        "H action: go ^when $ANY$K in_state P move_to A",
-        "H action: go do stop ^$ANY$K",
-        "H action: go if $ANY$K in_state P then else ^else endif",
-        "H when $ANY$K in_state P and ^",
-        "H when $ANY$K in_state {^",
-        "H when $ANY$K in_state P stay_in_state A ^A",
-        "class: $FWPART_$TOP$X ^state : A",
-        "H action: go ^abcdefghijklmnopqrstuvwxyzabcdef",
-    ];
-    for line in marked {
-        let line = line.replacen("H ", "class: $FWPART_$TOP$X state: A ", 1);
-        let (place, text) = (line.find('^'), line.replace('^', ""));
-        assert_eq!(read(&lent(&text, "P", "go stop", "K")), Err(Refusal { number: 16, place }), "{text}");
+    for marked in PLACES {
+        let (lent, place) = placed(marked);
+        assert_eq!(read(&roomy(lent)), Err(Refusal { number: 16, place: Some(place) }), "{marked}");
     }
+}
+
+/// What is read, what is refused with 17, and the depths from both sides.
+#[test]
+fn read_or_refused() {
+    for text in READ {
+        assert!(read(&roomy(short(text))).is_ok(), "{text}");
+    }
+    for text in REFUSED_17 {
+        assert_eq!(read(&roomy(short(text))), Err(Refusal::from(17)), "{text}");
+    }
+    assert!(wrong_lists().into_iter().all(|lent| read(&roomy(lent)) == Err(Refusal::from(17))));
+    assert!(depths(0).into_iter().all(|lent| read(&roomy(lent)).is_ok()));
+    assert!(depths(1).into_iter().all(|lent| read(&roomy(lent)) == Err(Refusal::from(18))));
+}
+
+/// The longest line is a question, and one that is a byte longer is none; both kinds of questions have such lines.
+#[test]
+fn longest_lines() {
+    for turn in 19..25 {
+        let line = Question::Read(long_text(&mut Random::for_question(3, turn), turn)).line();
+        let lengths = [FORMER_LONGEST_LINE, FORMER_LONGEST_LINE + 1, LONGEST_LINE, LONGEST_LINE, LONGEST_LINE, LONGEST_LINE + 1];
+        assert_eq!(line.len(), lengths[turn as usize - 19]);
+        assert_eq!(answer_line(line.as_bytes()) == "bad line", line.len() > LONGEST_LINE);
+    }
+    for (turn, length) in [(20, LONGEST_LINE), (21, LONGEST_LINE + 1), (22, FORMER_LONGEST_LINE), (23, FORMER_LONGEST_LINE + 1)] {
+        let line = making::make_line(3, 500 * turn + 250);
+        assert_eq!(line.len(), length);
+        assert_eq!(answer_line(&line) == "bad line", length > LONGEST_LINE);
+    }
+}
+
+/// A line on which nothing is lent but buffers has an answer of its own length.
+#[test]
+fn longest_answer() {
+    let line = Question::Read(long_text(&mut Random::for_question(3, 0), 23)).line();
+    assert_eq!((line.len(), answer_line(line.as_bytes()).len()), (LONGEST_LINE, LONGEST_LINE));
 }
 
 /// Every fixed word is cut out whole, and no reserved run is a name.
@@ -229,7 +169,7 @@ fn sample(index: u64) -> (Lent, Vec<u8>, Vec<u8>) {
         1 => ifs_of_depth(random, 8),
         _ => class(random, &shape),
     };
-    let (draft, manner, white) = (draft(random, class), manner(random), white(random));
+    let (draft, manner, white) = (draft(random, class), manner(random), white(random, 0));
     let pieces = pieces(random, &draft, manner);
     let [names, commands, classes] = lists(&draft);
     let sheet = bodies_of(&draft.class, false).sheet();
