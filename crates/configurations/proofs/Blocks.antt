@@ -79,10 +79,10 @@ module _ (c : Class) (s : Sound c) (ks : List Child) where
   moves-below q n l f = go (phase c ks q) refl
     where
       go : (p : Phase) → phase c ks q ≡ p → moves-of p ≤ n
-      go (settled e r m) h = at (lt-or-le n m)
+      go (settled e r m sent) h = at (lt-or-le n m)
         where
           at : (n < m) ⊎ (m ≤ n) → m ≤ n
-          at (inl a) = let (k, E, _) = phase-settled c ks q e r m h in absurd (true-not-false (can-fewer mv (suc n) m q a (there-can mv m q r (E .reached))) f)
+          at (inl a) = absurd (true-not-false (can-fewer mv (suc n) m q a (there-can mv m q r (phase-settled c ks q e r m sent h .there .reached))) f)
           at (inr a) = a
       go (loops r m) h = let (a, b) = phase-loops c ks q r m h in absurd (true-not-false (can-fewer mv (suc n) S q l (there-can mv S q r b)) f)
 
@@ -90,11 +90,11 @@ module _ (c : Class) (s : Sound c) (ks : List Child) where
   moves-above q n l f = go (phase c ks q) refl
     where
       go : (p : Phase) → phase c ks q ≡ p → n ≤ moves-of p
-      go (settled e r m) h = at (lt-or-le m n)
+      go (settled e r m sent) h = at (lt-or-le m n)
         where
           at : (m < n) ⊎ (n ≤ m) → n ≤ m
           at (inl a) =
-              let (k, E, _) = phase-settled c ks q e r m h in
+              let E = phase-settled c ks q e r m sent h .there in
               let (x, g) = can-there mv n q f in
               absurd (clash (cc (after-ended mv q m r n E a, g)))
           at (inr a) = a

@@ -57,7 +57,7 @@ module _ (c : Class) (s : Sound c) where
   settled-if ks none-returns q l = go (phase c ks q) refl
     where
       go : (p : Phase) → phase c ks q ≡ p → (r : ℕ) × (moves-of p < own-states c) × EndsAt (next c ks) q (moves-of p) r
-      go (settled e r m) h = let (a, E, t) = phase-settled c ks q e r m h in (r, a, E)
+      go (settled e r m sent) h = let P = phase-settled c ks q e r m sent h in (r, P .fewer, P .there)
       go (loops r m) h =
           let (n, t, u, a, R) = decides ks q l .reaches-loop r (phase-loops c ks q r m h .1) in
           let low = after-within (next c ks) (own-states c) (next-within c ks s) n q t l a in

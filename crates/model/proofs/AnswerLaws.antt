@@ -6,8 +6,8 @@ use mathlib.Core.Path.{_≡_, refl, sym, ap, ap₂}
 use mathlib.Core.List.{[], _∷_}
 use Rattle.model.specs.Tree as Tree
 use Rattle.model.specs.Node as Node
-use Rattle.model.specs.Values.{referrer-values, probed-values, settled-values, phase-values}
-use Rattle.model.specs.Answers.{referrer-as, probed-as, ending-as, phase-as, handled-values, looped-values, judge-numbers, probe-numbers, phase-numbers, command-numbers, loop-numbers, read-numbers}
+use Rattle.model.specs.Values.{referrer-values, probed-values, settled-values, loop-values}
+use Rattle.model.specs.Answers.{referrer-as, probed-as, ending-as, phased-values, handled-values, looped-values, judge-numbers, probe-numbers, phase-numbers, command-numbers, loop-numbers, read-numbers}
 use Rattle.model.specs.declared.OwnState.{OwnState}
 use Rattle.model.specs.declared.Referrer.{Referrer}
 use Rattle.model.specs.declared.Referrer.the-variants.{MoveTo, Do, Stay}
@@ -69,12 +69,6 @@ same-ending (ByDo a) ByNone h = absurd (clash (cc))
 same-ending (ByDo a) ByStay h = absurd (clash (cc))
 same-ending (ByDo a) (ByDo b) h = ap ByDo (cc)
 
-pub same-phase : (r s : Phase) → phase-as r ≡ phase-as s → r ≡ s
-same-phase (Settled d q m) (Settled e r n) h = λ i. Settled (same-ending d e (cc) i) (same-state q r (cc) i) ((let z : m ≡ n = cc in z) i)
-same-phase (Settled d q m) (Looping r n) h = absurd (clash (cc))
-same-phase (Looping q m) (Settled e r n) h = absurd (clash (cc))
-same-phase (Looping q m) (Looping r n) h = ap₂ Looping (same-state q r (cc)) (cc)
-
 -- the paper's values tell the tree's terms apart
 pub referrer-told : (r s : Tree.Referrer) → referrer-values r ≡ referrer-values s → r ≡ s
 referrer-told (Tree.move-to t) (Tree.move-to u) e = ap Tree.move-to (cc)
@@ -93,32 +87,33 @@ probed-told Node.nothing (Node.found j s) e = absurd (clash (cc))
 probed-told (Node.found i r) Node.nothing e = absurd (clash (cc))
 probed-told (Node.found i r) (Node.found j s) e = ap₂ Node.found (cc) (referrer-told r s (cc))
 
-settled-told : (d e : Node.Ending) (q r m n : ℕ) → settled-values d q m ≡ settled-values e r n → Node.settled d q m ≡ Node.settled e r n
-settled-told Node.by-none Node.by-none q r m n h = ap₂ (Node.settled Node.by-none) (cc) (cc)
-settled-told Node.by-none Node.by-stay q r m n h = absurd (clash (cc))
-settled-told Node.by-none (Node.by-do b) q r m n h = absurd (let z : _≡_ {A = ℕ} 0 2 = cc in omega arith)
-settled-told Node.by-stay Node.by-none q r m n h = absurd (clash (cc))
-settled-told Node.by-stay Node.by-stay q r m n h = ap₂ (Node.settled Node.by-stay) (cc) (cc)
-settled-told Node.by-stay (Node.by-do b) q r m n h = absurd (let z : _≡_ {A = ℕ} 1 2 = cc in omega arith)
-settled-told (Node.by-do a) Node.by-none q r m n h = absurd (let z : _≡_ {A = ℕ} 0 2 = cc in omega arith)
-settled-told (Node.by-do a) Node.by-stay q r m n h = absurd (let z : _≡_ {A = ℕ} 1 2 = cc in omega arith)
-settled-told (Node.by-do a) (Node.by-do b) q r m n h =
-    let x : a ≡ b = cc in
-    let y : q ≡ r = cc in
-    let z : m ≡ n = cc in
-    λ i. Node.settled (Node.by-do (x i)) (y i) (z i)
+-- settled phases of equal parts are one
+same-settled : (d e : Ending) (q r : OwnState) (m n x y : ℕ) → d ≡ e → q .0 ≡ r .0 → m ≡ n → x ≡ y → Settled d q m x ≡ Settled e r n y
+same-settled d e q r m n x y f g h k = λ i. Settled (f i) (same-state q r g i) (h i) (k i)
+
+-- by what a phase settled, and what it gives with it
+settled-told : (d e : Ending) (q r : OwnState) (m n x y : ℕ) → settled-values (ending-as d) (q .0) m x ≡ settled-values (ending-as e) (r .0) n y → Settled d q m x ≡ Settled e r n y
+settled-told ByNone ByNone q r m n x y h = same-settled ByNone ByNone q r m n x y refl (cc) (cc) (cc)
+settled-told ByNone ByStay q r m n x y h = absurd (clash (cc))
+settled-told ByNone (ByDo b) q r m n x y h = absurd (let z : _≡_ {A = ℕ} 0 2 = cc in omega arith)
+settled-told ByStay ByNone q r m n x y h = absurd (clash (cc))
+settled-told ByStay ByStay q r m n x y h = same-settled ByStay ByStay q r m n x y refl (cc) (cc) (cc)
+settled-told ByStay (ByDo b) q r m n x y h = absurd (let z : _≡_ {A = ℕ} 1 2 = cc in omega arith)
+settled-told (ByDo a) ByNone q r m n x y h = absurd (let z : _≡_ {A = ℕ} 0 2 = cc in omega arith)
+settled-told (ByDo a) ByStay q r m n x y h = absurd (let z : _≡_ {A = ℕ} 1 2 = cc in omega arith)
+settled-told (ByDo a) (ByDo b) q r m n x y h = same-settled (ByDo a) (ByDo b) q r m n x y (ap ByDo (cc)) (cc) (cc) (cc)
 
 -- a settled phase is no loop
-not-loop : (d : Node.Ending) (q r m n : ℕ) → settled-values d q m ≡ 3 ∷ r ∷ n ∷ [] → ⊥
-not-loop Node.by-none q r m n e = let z : _≡_ {A = ℕ} 0 3 = cc in omega arith
-not-loop Node.by-stay q r m n e = let z : _≡_ {A = ℕ} 1 3 = cc in omega arith
-not-loop (Node.by-do a) q r m n e = let z : _≡_ {A = ℕ} 2 3 = cc in omega arith
+not-loop : (d : Ending) (q r m n x : ℕ) → settled-values (ending-as d) q m x ≡ loop-values r n → ⊥
+not-loop ByNone q r m n x e = let z : _≡_ {A = ℕ} 0 3 = cc in omega arith
+not-loop ByStay q r m n x e = let z : _≡_ {A = ℕ} 1 3 = cc in omega arith
+not-loop (ByDo a) q r m n x e = let z : _≡_ {A = ℕ} 2 3 = cc in omega arith
 
-pub phase-told : (r s : Node.Phase) → phase-values r ≡ phase-values s → r ≡ s
-phase-told (Node.settled d q m) (Node.settled e r n) h = settled-told d e q r m n h
-phase-told (Node.settled d q m) (Node.loops r n) h = absurd (not-loop d q r m n h)
-phase-told (Node.loops q m) (Node.settled e r n) h = absurd (not-loop e r q n m (sym h))
-phase-told (Node.loops q m) (Node.loops r n) h = ap₂ Node.loops (cc) (cc)
+pub same-phase : (r s : Phase) → phased-values r ≡ phased-values s → r ≡ s
+same-phase (Settled d q m x) (Settled e r n y) h = settled-told d e q r m n x y h
+same-phase (Settled d q m x) (Looping r n) h = absurd (not-loop d (q .0) (r .0) m n x h)
+same-phase (Looping q m) (Settled e r n y) h = absurd (not-loop e (r .0) (q .0) n m y (sym h))
+same-phase (Looping q m) (Looping r n) h = ap₂ Looping (same-state q r (cc)) (cc)
 
 pub handled-told : (r s : Handling) → handled-values r ≡ handled-values s → r ≡ s
 handled-told (Ignored q) (Ignored r) e = ap Ignored (same-state q r (cc))
@@ -149,7 +144,7 @@ pub same-phase-answer : (r s : PhaseAnswer) → phase-numbers r ≡ phase-number
 same-phase-answer (W.Refused x) (W.Refused y) e = ap W.Refused (same-number x y (cc))
 same-phase-answer (W.Refused x) (W.Given s) e = absurd (not-zero x (cc))
 same-phase-answer (W.Given r) (W.Refused y) e = absurd (not-zero y (cc))
-same-phase-answer (W.Given r) (W.Given s) e = ap W.Given (same-phase r s (phase-told (phase-as r) (phase-as s) (cc)))
+same-phase-answer (W.Given r) (W.Given s) e = ap W.Given (same-phase r s (cc))
 
 pub same-command : (r s : CommandAnswer) → command-numbers r ≡ command-numbers s → r ≡ s
 same-command (C.Refused x) (C.Refused y) e = ap C.Refused (same-number x y (cc))

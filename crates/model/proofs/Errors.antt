@@ -9,7 +9,7 @@ use Rattle.model.specs.Tree.{Child, everyone, of-class, send, go-to, bra
 use Rattle.model.specs.Guards.{holds}
 use Rattle.model.specs.Moves.{Returns}
 use Rattle.model.specs.Node.{found, probe, next, loops, phase}
-use Rattle.model.specs.Commands.{sent-to, run-part}
+use Rattle.model.specs.Running.{sent-to, run-part}
 use Rattle.model.specs.Replies.{refuse, give, buffer-after}
 use Rattle.model.proofs.Computing.{computing}
 

@@ -2,18 +2,20 @@
 -- Assumes nothing.
 use Prim.Native.Nat.{ℕ, zero, suc, _+_, _<_}
 use native.Mathlib.Omega.{arith}
-use mathlib.Core.Path.{_≡_, refl, _∙_, ap, subst}
+use mathlib.Core.Path.{_≡_, refl, sym, _∙_, ap, subst}
 use mathlib.Core.Bool.{Bool, true, false}
-use mathlib.Core.List.{List, [], _∷_, List·Memᴰ, List·Memᴰ·head, List·Memᴰ·tail}
-use mathlib.Core.Option.{none, some}
+use mathlib.Core.List.{List, [], _∷_, _++_, append-assoc, List·Memᴰ, List·Memᴰ·head, List·Memᴰ·tail}
+use mathlib.Core.Option.{Option, none, some}
 use lib.ListN.{length, getD}
-use Rattle.model.specs.Words.{choose}
-use Rattle.model.specs.Tree.{Child, everyone, any-in, atom, Referrer, move-to, run, stay, When, Class}
+use Rattle.model.specs.Words.{choose, maybe}
+use Rattle.model.specs.Tree.{Child, everyone, any-in, atom, Referrer, move-to, run, stay, When, Class, no-action}
 use Rattle.model.specs.Guards.{holds}
 use Rattle.model.specs.Moves.{after, EndsAt, Ends, Within}
-use Rattle.model.specs.Node.{own-states, state-of, Probed, nothing, found, first-true, probe, Ending, by-do, Turn, stops, moves, command-of, turn-for, turn, moved, next, Phase, settled, loops, by-turn, walk, phase}
+use Rattle.model.specs.Node.{own-states, state-of, Probed, nothing, found, first-true, probe, Ending, by-do, Turn, stops, moves, action-of, turn-by, turn-for, turn, moved, next, sent-in, sends, on-the-way, Phase, settled, loops, by-turn, walk, phase}
+use Rattle.model.specs.Running.{Sent, Ran, run-part, goes}
 use Rattle.model.specs.Sound.{ReferrerRight, Sound}
 use Rattle.model.proofs.Words.{clash}
+use Rattle.model.proofs.RunLaws.{part-moves}
 use Rattle.model.proofs.Moves.{after-some, after-zero, ends-here, ends-later, ends-once, decided}
 
 -- entry n of a list, where n is below its length, is in the list
@@ -70,9 +72,43 @@ module _ (ks : List Child) (d : When) where
       go false p f h zero l = p
       go false p f h (suc m) l = h f m (omega arith)
 
--- with n moves left and m made, the phase from q ends in r when k are made, by e
-abbrev Ended : Class → List Child → ℕ → ℕ → ℕ → Ending → ℕ → ℕ → Type 0
-Ended c ks n q m e r k = (j : ℕ) × (j < n) × (k ≡ m + j) × EndsAt (next c ks) q j r × (turn c ks r ≡ stops e)
+-- where a probe of state q leads: to the target of a MOVE_TO, or where the clause of a DO goes
+abbrev pub led : Class → List Child → ℕ → Probed → Option ℕ
+led c ks q nothing = none
+led c ks q (found i (move-to t)) = some t
+led c ks q (found i (run a)) = goes (action-of c q a .body) ks
+led c ks q (found i stay) = none
+
+-- a DO that was run moves where its clause went, and sends what its clause sent
+turn-moved : (m : ℕ) (r : Ran) → moved (turn-by m r) ≡ r .moved
+turn-moved m r = go (r .moved)
+  where
+    go : (o : Option ℕ) → moved (maybe o (λ _. stops (by-do m) (r .sent)) (λ t. moves t (r .sent))) ≡ o
+    go none = refl
+    go (some t) = refl
+
+turn-sent : (m : ℕ) (r : Ran) → sent-in (turn-by m r) ≡ r .sent
+turn-sent m r = go (r .moved)
+  where
+    go : (o : Option ℕ) → sent-in (maybe o (λ _. stops (by-do m) (r .sent)) (λ t. moves t (r .sent))) ≡ r .sent
+    go none = refl
+    go (some t) = refl
+
+turn-led : (c : Class) (ks : List Child) (q : ℕ) (p : Probed) → moved (turn-for c ks q p) ≡ led c ks q p
+unfolding turn-for goes
+turn-led c ks q nothing = refl
+turn-led c ks q (found i (move-to t)) = refl
+turn-led c ks q (found i (run a)) = turn-moved (action-of c q a .command) (run-part (action-of c q a .body) ks)
+turn-led c ks q (found i stay) = refl
+
+-- with n moves left, m made and these commands sent, the phase from q ends in r when k are made, by e, and has sent xs
+pub record Ended (c : Class) (ks : List Child) (n q m : ℕ) (sent : List Sent) (e : Ending) (r k : ℕ) (xs : List Sent) : Type 0 where
+  pub j : ℕ
+  pub few : j < n
+  pub made : k ≡ m + j
+  pub there : EndsAt (next c ks) q j r
+  pub by : turn c ks r ≡ stops e (sends c ks r)
+  pub sent-all : xs ≡ sent ++ on-the-way c ks j q
 
 module _ (c : Class) (ks : List Child) where
   -- the probe finds the first clause of the state whose guard is true (d stands past the end of the list)
@@ -90,75 +126,127 @@ module _ (c : Class) (ks : List Child) where
   probe-nothing d q e = first-true-nothing ks d 0 (state-of c q .whens) e
 
   -- a turn that stops makes no move
-  pub stops-next : (q : ℕ) (e : Ending) → turn c ks q ≡ stops e → next c ks q ≡ none
+  pub stops-next : (q : ℕ) (e : Ending) (sent : List Sent) → turn c ks q ≡ stops e sent → next c ks q ≡ none
   unfolding next
-  stops-next q e h = ap moved h
+  stops-next q e sent h = ap moved h
 
   -- a turn that moves makes that move
-  pub moves-next : (q t : ℕ) → turn c ks q ≡ moves t → next c ks q ≡ some t
+  pub moves-next : (q t : ℕ) (sent : List Sent) → turn c ks q ≡ moves t sent → next c ks q ≡ some t
   unfolding next
-  moves-next q t h = ap moved h
+  moves-next q t sent h = ap moved h
 
-  -- only a turn that moves makes a move, and its clause is a MOVE_TO
-  moves-found : (q t : ℕ) (p : Probed) → moved (turn-for c q p) ≡ some t → (i : ℕ) × (p ≡ found i (move-to t))
-  unfolding turn-for
-  moves-found q t nothing e = absurd (clash (cc))
-  moves-found q t (found i (move-to u)) e = let z : u ≡ t = cc in (i, ap (λ (v : ℕ). found i (move-to v)) z)
-  moves-found q t (found i (run a)) e = absurd (clash (cc))
-  moves-found q t (found i stay) e = absurd (clash (cc))
-
-  -- every move leads to an own state
-  pub next-within : Sound c → Within (next c ks) (own-states c)
+  -- the next move is where the probe leads
+  pub next-by : (q : ℕ) → next c ks q ≡ led c ks q (probe c ks q)
   unfolding next turn
-  next-within s q t e =
-      let (i, f) = moves-found q t (probe c ks q) e in
+  next-by q = turn-led c ks q (probe c ks q)
+
+  -- every move leads to an own state: the target of a clause, or that of a move_to of an action clause
+  led-within : Sound c → (q t : ℕ) (p : Probed) → probe c ks q ≡ p → led c ks q p ≡ some t → t < own-states c
+  unfolding goes
+  led-within s q t nothing h e = absurd (clash (cc))
+  led-within s q t (found i stay) h e = absurd (clash (cc))
+  led-within s q t (found i (move-to u)) h e =
+      let z : u ≡ t = cc in
       let d : When = record { guard = atom any-in everyone 0; referrer = stay } in
-      let H = probe-found d q i (move-to t) f in
-      let w : When = getD (state-of c q .whens) i d in
-      subst (ReferrerRight c q) (H .referrer) (s .referrers q w (getD-mem (state-of c q .whens) i d (H .listed)))
+      let H = probe-found d q i (move-to u) h in
+      let l : u < own-states c = subst (ReferrerRight c q) (H .referrer) (s .referrers q (getD (state-of c q .whens) i d) (getD-mem (state-of c q .whens) i d (H .listed))) in
+      rw (← z) l
+  led-within s q t (found i (run a)) h e =
+      let d : When = record { guard = atom any-in everyone 0; referrer = stay } in
+      let H = probe-found d q i (run a) h in
+      let l : a < length (state-of c q .actions) = subst (ReferrerRight c q) (H .referrer) (s .referrers q (getD (state-of c q .whens) i d) (getD-mem (state-of c q .whens) i d (H .listed))) in
+      part-moves (action-of c q a .body) ks (own-states c) (s .bodies q (action-of c q a) (getD-mem (state-of c q .actions) a no-action l)) t e
+
+  pub next-within : Sound c → Within (next c ks) (own-states c)
+  next-within s q t e = led-within s q t (probe c ks q) refl (sym (next-by q) ∙ e)
+
+  -- what a turn sends
+  sends-by : (q : ℕ) (t : Turn) → turn c ks q ≡ t → sends c ks q ≡ sent-in t
+  unfolding sends
+  sends-by q t h = ap sent-in h
+
+  -- what is sent on the way, a move more
+  way-here : (q : ℕ) (t : Turn) → turn c ks q ≡ t → on-the-way c ks 0 q ≡ sent-in t
+  unfolding on-the-way sends
+  way-here q t h = ap sent-in h
+
+  way-on : (q t n : ℕ) (sent : List Sent) → turn c ks q ≡ moves t sent → on-the-way c ks (suc n) q ≡ sent ++ on-the-way c ks n t
+  unfolding on-the-way sends
+  way-on q t n sent h = rw (moves-next q t sent h, h)
 
   -- a walk that settles has ended within its moves, in a state where the turn stops
-  walk-settled : (n q m : ℕ) (e : Ending) (r k : ℕ) → walk c ks n q m ≡ settled e r k → Ended c ks n q m e r k
+  walk-settled : (n q m : ℕ) (sent : List Sent) (e : Ending) (r k : ℕ) (xs : List Sent) → walk c ks n q m sent ≡ settled e r k xs → Ended c ks n q m sent e r k xs
   unfolding walk
-  walk-settled zero q m e r k h = absurd (clash (cc))
-  walk-settled (suc n) q m e r k h = go (turn c ks q) refl h (λ t. walk-settled n t (m + 1) e r k)
+  walk-settled zero q m sent e r k xs h = absurd (clash (cc))
+  walk-settled (suc n) q m sent e r k xs h = go (turn c ks q) refl h (λ t x. walk-settled n t (m + 1) (sent ++ x) e r k xs)
     where
-      go : (t : Turn) → turn c ks q ≡ t → by-turn t (λ e. settled e q m) (λ t. walk c ks n t (m + 1)) ≡ settled e r k
-          → ((t : ℕ) → walk c ks n t (m + 1) ≡ settled e r k → Ended c ks n t (m + 1) e r k) → Ended c ks (suc n) q m e r k
-      go (stops f) p g rest =
+      go : (t : Turn) → turn c ks q ≡ t → by-turn t (λ e x. settled e q m (sent ++ x)) (λ t x. walk c ks n t (m + 1) (sent ++ x)) ≡ settled e r k xs
+          → ((t : ℕ) (x : List Sent) → walk c ks n t (m + 1) (sent ++ x) ≡ settled e r k xs → Ended c ks n t (m + 1) (sent ++ x) e r k xs) → Ended c ks (suc n) q m sent e r k xs
+      go (stops f x) p g rest =
           let a : q ≡ r = cc in
           let b : m ≡ k = cc in
           let z : f ≡ e = cc in
-          (0, (omega arith), (omega arith), (rw (← a) (ends-here (next c ks) q (stops-next q f p))), (rw (← a, ← z) p))
-      go (moves t) p g rest =
-          let (j, l, b, E, x) = rest t g in
-          (suc j, (omega arith), (omega arith), ends-later (next c ks) q t j r (moves-next q t p) E, x)
+          let y : sent ++ x ≡ xs = cc in
+          let w : sends c ks q ≡ x = sends-by q (stops f x) p in
+          record {
+            j = 0;
+            few = omega arith;
+            made = omega arith;
+            there = rw (← a) (ends-here (next c ks) q (stops-next q f x p));
+            by = rw (← a, ← z, w) p;
+            sent-all = sym y ∙ ap (λ (l : List Sent). sent ++ l) (sym (way-here q (stops f x) p));
+          }
+      go (moves t x) p g rest =
+          let E = rest t x g in
+          let l = E .few in
+          let b = E .made in
+          record {
+            j = suc (E .j);
+            few = omega arith;
+            made = omega arith;
+            there = ends-later (next c ks) q t (E .j) r (moves-next q t x p) (E .there);
+            by = E .by;
+            sent-all = E .sent-all ∙ append-assoc sent x (on-the-way c ks (E .j) t) ∙ ap (λ (l : List Sent). sent ++ l) (sym (way-on q t (E .j) x p));
+          }
 
   -- a walk that loops has made all its moves
-  walk-loops : (n q m r k : ℕ) → walk c ks n q m ≡ loops r k → (k ≡ m + n) × (after (next c ks) n q ≡ some r)
+  walk-loops : (n q m : ℕ) (sent : List Sent) (r k : ℕ) → walk c ks n q m sent ≡ loops r k → (k ≡ m + n) × (after (next c ks) n q ≡ some r)
   unfolding walk
-  walk-loops zero q m r k h = let a : q ≡ r = cc in let b : m ≡ k = cc in ((omega arith), after-zero (next c ks) q ∙ ap some a)
-  walk-loops (suc n) q m r k h = go (turn c ks q) refl h (λ t. walk-loops n t (m + 1) r k)
+  walk-loops zero q m sent r k h = let a : q ≡ r = cc in let b : m ≡ k = cc in ((omega arith), after-zero (next c ks) q ∙ ap some a)
+  walk-loops (suc n) q m sent r k h = go (turn c ks q) refl h (λ t x. walk-loops n t (m + 1) (sent ++ x) r k)
     where
-      go : (t : Turn) → turn c ks q ≡ t → by-turn t (λ e. settled e q m) (λ t. walk c ks n t (m + 1)) ≡ loops r k
-          → ((t : ℕ) → walk c ks n t (m + 1) ≡ loops r k → (k ≡ m + 1 + n) × (after (next c ks) n t ≡ some r))
+      go : (t : Turn) → turn c ks q ≡ t → by-turn t (λ e x. settled e q m (sent ++ x)) (λ t x. walk c ks n t (m + 1) (sent ++ x)) ≡ loops r k
+          → ((t : ℕ) (x : List Sent) → walk c ks n t (m + 1) (sent ++ x) ≡ loops r k → (k ≡ m + 1 + n) × (after (next c ks) n t ≡ some r))
           → (k ≡ m + suc n) × (after (next c ks) (suc n) q ≡ some r)
-      go (stops f) p g rest = absurd (clash (cc))
-      go (moves t) p g rest = let (a, b) = rest t g in ((omega arith), after-some (next c ks) n q t (moves-next q t p) ∙ b)
+      go (stops f x) p g rest = absurd (clash (cc))
+      go (moves t x) p g rest = let (a, b) = rest t x g in ((omega arith), after-some (next c ks) n q t (moves-next q t x p) ∙ b)
 
-  -- a settled phase ends after the moves and in the state that it names, in fewer than S moves, by what it names
-  pub phase-settled : (q : ℕ) (e : Ending) (r m : ℕ) → phase c ks q ≡ settled e r m
-      → (m < own-states c) × EndsAt (next c ks) q m r × (turn c ks r ≡ stops e)
+  -- a settled phase ends after the moves and in the state that it names, in fewer than S moves, by what it names, and sent what is sent on the
+  -- way
+  pub record PhaseSettled (q : ℕ) (e : Ending) (r m : ℕ) (sent : List Sent) : Type 0 where
+    pub fewer : m < own-states c
+    pub there : EndsAt (next c ks) q m r
+    pub by : turn c ks r ≡ stops e (sends c ks r)
+    pub sent-all : sent ≡ on-the-way c ks m q
+
+  pub phase-settled : (q : ℕ) (e : Ending) (r m : ℕ) (sent : List Sent) → phase c ks q ≡ settled e r m sent → PhaseSettled q e r m sent
   unfolding phase
-  phase-settled q e r m h =
-      let (j, l, a, E, x) = walk-settled (own-states c) q 0 e r m h in
-      let z : j ≡ m = omega arith in
-      ((omega arith), subst (λ n. EndsAt (next c ks) q n r) z E, x)
+  phase-settled q e r m sent h =
+      let E = walk-settled (own-states c) q 0 [] e r m sent h in
+      let l = E .few in
+      let a = E .made in
+      let z : E .j ≡ m = omega arith in
+      record {
+        fewer = omega arith;
+        there = subst (λ n. EndsAt (next c ks) q n r) z (E .there);
+        by = E .by;
+        sent-all = E .sent-all ∙ ap (λ (n : ℕ). on-the-way c ks n q) z;
+      }
 
   -- a looping phase has made S moves
   pub phase-loops : (q r m : ℕ) → phase c ks q ≡ loops r m → (m ≡ own-states c) × (after (next c ks) (own-states c) q ≡ some r)
   unfolding phase
-  phase-loops q r m h = let (a, b) = walk-loops (own-states c) q 0 r m h in ((omega arith), b)
+  phase-loops q r m h = let (a, b) = walk-loops (own-states c) q 0 [] r m h in ((omega arith), b)
 
   module _ (s : Sound c) (q : ℕ) (low : q < own-states c) where
     -- a looping phase never ends
@@ -166,15 +254,14 @@ module _ (c : Class) (ks : List Child) where
     loops-never r m h = decided (next c ks) (own-states c) (next-within s) q low .never-ends r (phase-loops q r m h .1)
 
     -- a phase that ends is settled, after as many moves and in the same state
-    pub ends-settled : (n r : ℕ) → EndsAt (next c ks) q n r → (e : Ending) × (phase c ks q ≡ settled e r n)
+    pub ends-settled : (n r : ℕ) → EndsAt (next c ks) q n r → (e : Ending) × (sent : List Sent) × (phase c ks q ≡ settled e r n sent)
     ends-settled n r E = go (phase c ks q) refl
       where
-        go : (p : Phase) → phase c ks q ≡ p → (e : Ending) × (phase c ks q ≡ settled e r n)
+        go : (p : Phase) → phase c ks q ≡ p → (e : Ending) × (sent : List Sent) × (phase c ks q ≡ settled e r n sent)
         go (loops t m) h = absurd (loops-never t m h (n, r, E))
-        go (settled e t m) h =
-            let (l, F, x) = phase-settled q e t m h in
-            let (a, b) = ends-once (next c ks) q m t n r F E in
-            (e, h ∙ cc)
+        go (settled e t m sent) h =
+            let (a, b) = ends-once (next c ks) q m t n r (phase-settled q e t m sent h .there) E in
+            (e, sent, h ∙ cc)
 
     -- a phase that never ends is answered by loop, S moves and the state after them
     pub never-loops : (Ends (next c ks) q → ⊥) → (r : ℕ) × (phase c ks q ≡ loops r (own-states c)) × (after (next c ks) (own-states c) q ≡ some r)
@@ -182,12 +269,37 @@ module _ (c : Class) (ks : List Child) where
       where
         go : (p : Phase) → phase c ks q ≡ p → (r : ℕ) × (phase c ks q ≡ loops r (own-states c)) × (after (next c ks) (own-states c) q ≡ some r)
         go (loops r m) h = let (a, b) = phase-loops q r m h in (r, h ∙ ap (loops r) a, b)
-        go (settled e r m) h = absurd (never (m, r, phase-settled q e r m h .1))
+        go (settled e r m sent) h = absurd (never (m, r, phase-settled q e r m sent h .there))
 
--- a turn that stops on a DO is by a clause that runs an action, whose command it names
-pub turn-runs : (c : Class) (q m : ℕ) (p : Probed) → turn-for c q p ≡ stops (by-do m) → (i : ℕ) × (a : ℕ) × (p ≡ found i (run a)) × (command-of c q a ≡ m)
+-- a turn that stops on a DO is by a clause that runs an action, whose command it names and which goes nowhere
+pub turn-runs : (c : Class) (ks : List Child) (q m : ℕ) (p : Probed) (sent : List Sent) → turn-for c ks q p ≡ stops (by-do m) sent
+    → (i : ℕ) × (a : ℕ) × (p ≡ found i (run a)) × (action-of c q a .command ≡ m) × (goes (action-of c q a .body) ks ≡ none)
+unfolding turn-for goes
+turn-runs c ks q m nothing sent e = absurd (clash (cc))
+turn-runs c ks q m (found i (move-to t)) sent e = absurd (clash (cc))
+turn-runs c ks q m (found i (run a)) sent e = let (x, y) = go (run-part (action-of c q a .body) ks .moved) refl e in (i, a, refl, x, y)
+  where
+    go : (o : Option ℕ) → run-part (action-of c q a .body) ks .moved ≡ o
+        → maybe o (λ _. stops (by-do (action-of c q a .command)) (run-part (action-of c q a .body) ks .sent)) (λ t. moves t (run-part (action-of c q a .body) ks .sent)) ≡ stops (by-do m) sent
+        → (action-of c q a .command ≡ m) × (run-part (action-of c q a .body) ks .moved ≡ none)
+    go none f g = (cc, f)
+    go (some t) f g = absurd (clash (cc))
+turn-runs c ks q m (found i stay) sent e = absurd (clash (cc))
+
+-- what a turn sends, by its probe: a DO what its clause sends, anything else nothing
+abbrev pub sent-by : Class → List Child → ℕ → Probed → List Sent
+sent-by c ks q nothing = []
+sent-by c ks q (found i (move-to t)) = []
+sent-by c ks q (found i (run a)) = run-part (action-of c q a .body) ks .sent
+sent-by c ks q (found i stay) = []
+
+pub sends-probed : (c : Class) (ks : List Child) (q : ℕ) (p : Probed) → sent-in (turn-for c ks q p) ≡ sent-by c ks q p
 unfolding turn-for
-turn-runs c q m nothing e = absurd (clash (cc))
-turn-runs c q m (found i (move-to t)) e = absurd (clash (cc))
-turn-runs c q m (found i (run a)) e = (i, a, refl, cc)
-turn-runs c q m (found i stay) e = absurd (clash (cc))
+sends-probed c ks q nothing = refl
+sends-probed c ks q (found i (move-to t)) = refl
+sends-probed c ks q (found i (run a)) = turn-sent (action-of c q a .command) (run-part (action-of c q a .body) ks)
+sends-probed c ks q (found i stay) = refl
+
+pub sends-is : (c : Class) (ks : List Child) (q : ℕ) → sends c ks q ≡ sent-by c ks q (probe c ks q)
+unfolding sends turn
+sends-is c ks q = sends-probed c ks q (probe c ks q)

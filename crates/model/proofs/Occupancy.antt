@@ -1,17 +1,21 @@
--- Guards see occupancy only: two lists with the same occupied names in every class behave alike.
+-- Guards see occupancy only: two lists with the same occupied names in every class make the same moves, those of a DO too. What is sent may
+-- differ.
 -- Assumes nothing.
-use Prim.Native.Nat.{ℕ, zero, suc, _+_}
+use Prim.Native.Nat.{ℕ, _+_}
 use mathlib.Core.Path.{_≡_, refl, sym, _∙_, ap, ap₂, subst, fun-ext}
 use mathlib.Core.Bool.{Bool, true, _&&_, _||_, not}
 use mathlib.Core.List.{List, [], _∷_, List·Memᴰ}
 use lib.Dec.{eqb}
 use borrow.Author.Tests.{eqb-true, eq-eqb}
 use Rattle.model.specs.Words.{has, each, every, some-in}
-use Rattle.model.specs.Tree.{Child, Pattern, Kind, any-in, any-not-in, all-in, all-not-in, Guard, atom, both, either, opposite, When, Class}
+use Rattle.model.specs.Tree.{Child, Pattern, Kind, any-in, any-not-in, all-in, all-not-in, Guard, atom, both, either, opposite, move-to, run, stay, When, Statement, send, go-to, branch, Part, end, _then_, Class}
 use Rattle.model.specs.Guards.{concerns, any-of, all-of, named-in, atom-holds, holds}
-use Rattle.model.specs.Node.{own-states, state-of, first-true, probe, turn-for, Turn, turn, moved, next, settled, by-turn, walk, phase}
+use Rattle.model.specs.Running.{run-one, goes-one, goes}
+use Rattle.model.specs.Node.{state-of, Probed, nothing, found, first-true, probe, action-of, next}
 use Rattle.model.specs.Crews.{child-classes, belongs, occurs, all-occur, fits, occupied, Same}
 use Rattle.model.proofs.Words.{both-ways, and-left, and-right, and-both}
+use Rattle.model.proofs.RunLaws.{goes-end, goes-then, goes-branch}
+use Rattle.model.proofs.NodeLaws.{led, next-by}
 use Rattle.model.proofs.Lists.{every-elim, every-intro, some-in-elim, some-in-intro}
 
 -- the name of a child of the list is occupied in its class
@@ -96,6 +100,27 @@ holds-same (both g h) ks ls s = ap₂ _&&_ (holds-same g ks ls s) (holds-same h 
 holds-same (either g h) ks ls s = ap₂ _||_ (holds-same g ks ls s) (holds-same h ks ls s)
 holds-same (opposite g) ks ls s = ap not (holds-same g ks ls s)
 
+-- where a do and a move_to go is no matter of the children
+send-same : (m : ℕ) (p : Pattern) (ks ls : List Child) → goes-one (send m p) ks ≡ goes-one (send m p) ls
+unfolding goes-one run-one
+send-same m p ks ls = refl
+
+go-to-same : (t : ℕ) (ks ls : List Child) → goes-one (go-to t) ks ≡ goes-one (go-to t) ls
+unfolding goes-one run-one
+go-to-same t ks ls = refl
+
+-- hence where a part goes
+mutual
+  goes-one-same : (ks ls : List Child) → Same ks ls → (s : Statement) → goes-one s ks ≡ goes-one s ls
+  goes-one-same ks ls h (send m p) = send-same m p ks ls
+  goes-one-same ks ls h (go-to t) = go-to-same t ks ls
+  goes-one-same ks ls h (branch g a b) =
+      goes-branch g a b ks ∙ rw (holds-same g ks ls h, goes-same ks ls h a, goes-same ks ls h b) (sym (goes-branch g a b ls))
+
+  pub goes-same : (ks ls : List Child) → Same ks ls → (p : Part) → goes p ks ≡ goes p ls
+  goes-same ks ls h end = goes-end ks ∙ sym (goes-end ls)
+  goes-same ks ls h (s then p) = goes-then s p ks ∙ rw (goes-one-same ks ls h s, goes-same ks ls h p) (sym (goes-then s p ls))
+
 module _ (ks ls : List Child) (s : Same ks ls) where
   -- hence the first true clause
   first-true-same : (i : ℕ) (ws : List When) → first-true ks i ws ≡ first-true ls i ws
@@ -109,25 +134,12 @@ module _ (ks ls : List Child) (s : Same ks ls) where
     unfolding probe
     probe-same q = first-true-same 0 (state-of c q .whens)
 
-    -- hence the turn
-    pub turn-same : (q : ℕ) → turn c ks q ≡ turn c ls q
-    unfolding turn
-    turn-same q = ap (turn-for c q) (probe-same q)
+    -- hence where it leads, and the same moves, as functions; what a DO sends goes by the list itself
+    led-same : (q : ℕ) (p : Probed) → led c ks q p ≡ led c ls q p
+    led-same q nothing = refl
+    led-same q (found i (move-to t)) = refl
+    led-same q (found i (run a)) = goes-same ks ls s (action-of c q a .body)
+    led-same q (found i stay) = refl
 
-    -- the same moves, as functions
     pub next-same : next c ks ≡ next c ls
-    unfolding next
-    next-same = fun-ext (λ q. ap moved (turn-same q))
-
-    -- hence the walk
-    walk-same : (n q m : ℕ) → walk c ks n q m ≡ walk c ls n q m
-    unfolding walk
-    walk-same zero q m = refl
-    walk-same (suc n) q m =
-        ap (λ (t : Turn). by-turn t (λ e. settled e q m) (λ t. walk c ks n t (m + 1))) (turn-same q)
-        ∙ ap (by-turn (turn c ls q) (λ e. settled e q m)) (fun-ext (λ t. walk-same n t (m + 1)))
-
-    -- hence the phase
-    pub phase-same : (q : ℕ) → phase c ks q ≡ phase c ls q
-    unfolding phase
-    phase-same q = walk-same (own-states c) q 0
+    next-same = fun-ext (λ q. next-by c ks q ∙ led-same q (probe c ks q) ∙ ap (led c ls q) (probe-same q) ∙ sym (next-by c ls q))

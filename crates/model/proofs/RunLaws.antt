@@ -1,4 +1,5 @@
--- Laws about specs/Commands.antt: how much a part sends, at most one command for each statement and child, and where it moves to.
+-- Laws about specs/Running.antt: where a part moves to, and how much it sends, at most one command for each statement and child; and that the
+-- clause for a command is one of the state's.
 -- Assumes nothing.
 use Prim.Native.Nat.{ℕ, suc, _+_, _*_, _<_, _≤_}
 use native.Mathlib.Omega.{arith}
@@ -10,11 +11,44 @@ use lib.Dec.{eqb}
 use lib.ListN.{length, length-append}
 use borrow.Author.Tests.{ltb-true}
 use Rattle.model.specs.Words.{choose, maybe, kept}
-use Rattle.model.specs.Tree.{Child, Pattern, Statement, send, go-to, branch, Part, end, _then_, Action}
+use Rattle.model.specs.Tree.{Child, Pattern, Guard, Statement, send, go-to, branch, Part, end, _then_, Action}
 use Rattle.model.specs.Guards.{concerns, holds}
-use Rattle.model.specs.Commands.{sent-to, run-one, run-part, clause-for}
+use Rattle.model.specs.Running.{Ran, sent-to, and-then, run-one, run-part, goes, goes-one}
+use Rattle.model.specs.Commands.{clause-for}
 use Rattle.model.specs.Sound.{statement-within, part-within}
 use Rattle.model.proofs.Words.{clash, and-left, and-right}
+
+-- where a part goes: by its first statement, else by the rest
+then-moved : (r : Ran) (rest : Unit {0} → Ran) → and-then r rest .moved ≡ maybe (r .moved) (λ _. rest tt .moved) some
+then-moved r rest = go (r .moved) refl
+  where
+    go : (o : Option ℕ) → r .moved ≡ o → maybe o (λ _. record { sent = r .sent ++ rest tt .sent; moved = rest tt .moved }) (λ t. r) .moved ≡ maybe o (λ _. rest tt .moved) some
+    go none e = refl
+    go (some t) e = e
+
+pub goes-end : (l : List Child) → goes end l ≡ none
+unfolding goes run-part
+goes-end l = refl
+
+pub goes-then : (s : Statement) (p : Part) (l : List Child) → goes (s then p) l ≡ maybe (goes-one s l) (λ _. goes p l) some
+unfolding goes goes-one run-part
+goes-then s p l = then-moved (run-one s l) (λ _. run-part p l)
+
+pub goes-send : (m : ℕ) (x : Pattern) (p : Part) (l : List Child) → goes (send m x then p) l ≡ goes p l
+unfolding goes run-part run-one
+goes-send m x p l = refl
+
+pub goes-go : (t : ℕ) (p : Part) (l : List Child) → goes (go-to t then p) l ≡ some t
+unfolding goes run-part run-one
+goes-go t p l = refl
+
+pub goes-branch : (g : Guard) (a b : Part) (l : List Child) → goes-one (branch g a b) l ≡ choose (holds g l) (λ _. goes a l) (λ _. goes b l)
+unfolding goes goes-one run-one
+goes-branch g a b l = go (holds g l)
+  where
+    go : (h : Bool) → choose h (λ _. run-part a l) (λ _. run-part b l) .moved ≡ choose h (λ _. run-part a l .moved) (λ _. run-part b l .moved)
+    go true = refl
+    go false = refl
 
 -- how many statements there are, those of an if's parts counted
 unfoldable mutual

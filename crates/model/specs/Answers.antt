@@ -5,7 +5,7 @@ use mathlib.Core.List.{List, [], _∷_}
 use Rattle.model.specs.Tree as Tree
 use Rattle.model.specs.Node as Node
 use Rattle.model.specs.Refusals.{number-of}
-use Rattle.model.specs.Values.{probed-values, phase-values}
+use Rattle.model.specs.Values.{probed-values, settled-values, loop-values}
 use Rattle.model.specs.declared.Referrer.{Referrer}
 use Rattle.model.specs.declared.Referrer.the-variants.{MoveTo, Do, Stay}
 use Rattle.model.specs.declared.Probed.{Probed}
@@ -31,7 +31,7 @@ use Rattle.model.specs.declared.LoopAnswer.the-variants as L
 use Rattle.model.specs.declared.ReadAnswer.{ReadAnswer}
 use Rattle.model.specs.declared.ReadAnswer.the-variants as R
 
--- what a probe and a when phase give, as the tree has it
+-- what a probe gives and by what a phase settles, as the tree has it
 abbrev pub referrer-as : Referrer → Tree.Referrer
 referrer-as (MoveTo t) = Tree.move-to (t .0)
 referrer-as (Do a) = Tree.run a
@@ -46,9 +46,10 @@ ending-as ByNone = Node.by-none
 ending-as ByStay = Node.by-stay
 ending-as (ByDo c) = Node.by-do c
 
-abbrev pub phase-as : Phase → Node.Phase
-phase-as (Settled e q m) = Node.settled (ending-as e) (q .0) m
-phase-as (Looping q m) = Node.loops (q .0) m
+-- a settled phase: by what, the state, the moves, the number of bytes written; a phase that loops has written none
+abbrev pub phased-values : Phase → List ℕ
+phased-values (Settled e q m n) = settled-values (ending-as e) (q .0) m n
+phased-values (Looping q m) = loop-values (q .0) m
 
 -- 0 ignored, 1 handled: the state, the number of bytes written
 abbrev pub handled-values : Handling → List ℕ
@@ -71,7 +72,7 @@ probe-numbers (P.Given p) = 0 ∷ probed-values (probed-as p)
 
 abbrev pub phase-numbers : PhaseAnswer → List ℕ
 phase-numbers (W.Refused x) = number-of x ∷ []
-phase-numbers (W.Given p) = 0 ∷ phase-values (phase-as p)
+phase-numbers (W.Given p) = 0 ∷ phased-values p
 
 abbrev pub command-numbers : CommandAnswer → List ℕ
 command-numbers (C.Refused x) = number-of x ∷ []

@@ -2,6 +2,7 @@ pub mod Words
 pub mod Tree
 pub mod Guards
 pub mod Moves
+pub mod Running
 pub mod Node
 pub mod Commands
 pub mod Crews

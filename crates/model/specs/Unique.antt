@@ -2,7 +2,7 @@
 -- Assumes nothing.
 use mathlib.Core.Path.{_≡_}
 use Rattle.model.specs.Refusals.{number-of}
-use Rattle.model.specs.Answers.{referrer-as, probed-as, ending-as, phase-as, judge-numbers, probe-numbers, phase-numbers, command-numbers, loop-numbers, read-numbers}
+use Rattle.model.specs.Answers.{referrer-as, probed-as, ending-as, phased-values, judge-numbers, probe-numbers, phase-numbers, command-numbers, loop-numbers, read-numbers}
 use Rattle.model.specs.declared.OwnState.{OwnState}
 
 -- any two results that a promise allows are equal
@@ -25,7 +25,7 @@ pub record Readings : Type 0 where
   pub referrers : TellsApart referrer-as
   pub probes : TellsApart probed-as
   pub endings : TellsApart ending-as
-  pub phases : TellsApart phase-as
+  pub phases : TellsApart phased-values
   pub judging : TellsApart judge-numbers
   pub probing : TellsApart probe-numbers
   pub phasing : TellsApart phase-numbers

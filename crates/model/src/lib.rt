@@ -46,16 +46,17 @@ pub enum Probed {
     Found(usize, Referrer),
 }
 
-// By what a phase settles: no clause, STAY, or DO with the command of its action clause.
+// By what a phase settles: no clause, STAY, or DO with the command of its action clause, which has run.
 pub enum Ending {
     ByNone,
     ByStay,
     ByDo(u8),
 }
 
-// A when phase: settled by what, in which state, after how many moves; or loop, the state after S moves, S.
+// A when phase: settled by what, in which state, after how many moves, and how many bytes of commands were written; or loop, the state
+// after S moves, S, and nothing is written.
 pub enum Phase {
-    Settled(Ending, OwnState, usize),
+    Settled(Ending, OwnState, usize, usize),
     Loops(OwnState, usize),
 }
 
