@@ -12,7 +12,7 @@ use borrow.Author.Tests.{leb-true}
 use Rattle.model.specs.Words.{every}
 use Rattle.model.specs.Tree.{Child, Part, Class}
 use Rattle.model.specs.Crews.{in-class}
-use Rattle.model.specs.Commands.{Sent, run-part}
+use Rattle.model.specs.Running.{Sent, run-part}
 use Rattle.model.proofs.Words.{and-left, and-right}
 use Rattle.model.proofs.RunLaws.{part-size, part-sends}
 use Rattle.children.specs.ChildList.{children-of, list-right, pairs, sent-bytes}

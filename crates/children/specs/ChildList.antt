@@ -7,7 +7,7 @@ use lib.Dec.{eqb, leb}
 use lib.ListN.{length}
 use Rattle.model.specs.Words.{every}
 use Rattle.model.specs.Tree.{Child, Class}
-use Rattle.model.specs.Commands.{Sent}
+use Rattle.model.specs.Running.{Sent}
 use Rattle.model.specs.Crews.{in-class}
 
 unfoldable pub children-of : List ℕ → List Child

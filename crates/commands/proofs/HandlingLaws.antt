@@ -5,8 +5,8 @@ use native.Mathlib.Omega.{arith}
 use mathlib.Core.Path.{_≡_, refl, _∙_, ap}
 use mathlib.Core.List.{List, [], _∷_, _++_}
 use lib.ListN.{length, drop}
-use borrow.Author.Tests.{le-leb, lt-leb}
-use Rattle.model.specs.Commands.{Sent, Handling, handled, ignored}
+use Rattle.model.specs.Running.{Sent}
+use Rattle.model.specs.Commands.{Handling, handled, ignored}
 use Rattle.model.specs.Answers.{command-numbers}
 use Rattle.model.specs.Replies.{refuse, give, Answered}
 use Rattle.model.specs.declared.OwnState.{OwnState}
@@ -14,38 +14,29 @@ use Rattle.model.specs.declared.Refusal.the-variants.{Room}
 use Rattle.model.specs.declared.Handling.the-variants.{Ignored, Handled}
 use Rattle.model.specs.declared.CommandAnswer.{CommandAnswer}
 use Rattle.model.specs.declared.CommandAnswer.the-variants.{Given, Refused}
-use Rattle.model.proofs.ReplyLaws.{answered-by}
+use Rattle.model.proofs.ReplyLaws.{answered-by, room-short, room-given}
 use Rattle.children.specs.ChildList.{sent-bytes}
 use Rattle.commands.specs.Handling.{bytes-of-handling, reply-handling, handling-values}
-
-module _ (h : Handling) (out : List ℕ) where
-  short-reply : length out < length (bytes-of-handling h) → reply-handling h out ≡ refuse 15
-  unfolding reply-handling
-  short-reply l = rw (lt-leb (length (bytes-of-handling h)) (length out) l)
-
-  given-reply : length (bytes-of-handling h) ≤ length out → reply-handling h out ≡ give h (bytes-of-handling h)
-  unfolding reply-handling
-  given-reply l = rw (le-leb (length (bytes-of-handling h)) (length out) l)
 
 -- an answer, and the buffer afterwards, are those of the handling h
 abbrev pub HandledSo : Handling → List ℕ → List ℕ → CommandAnswer → Type 0
 HandledSo h out after r = Answered handling-values (reply-handling h out) out (command-numbers r) after
 
 pub ignored-so : (h : Handling) (q : OwnState) → h ≡ ignored (q .0) → (out after : List ℕ) → after ≡ out → HandledSo h out after (Given (Ignored q))
-unfolding bytes-of-handling handling-values
+unfolding reply-handling bytes-of-handling handling-values
 ignored-so h q e out after g =
-    rw e (answered-by handling-values (reply-handling (ignored (q .0)) out) (give (ignored (q .0)) []) (given-reply (ignored (q .0)) out (omega arith)) out (0 ∷ 0 ∷ q .0 ∷ 0 ∷ []) after refl g)
+    rw e (answered-by handling-values (reply-handling (ignored (q .0)) out) (give (ignored (q .0)) []) (room-given (ignored (q .0)) [] out (omega arith)) out (0 ∷ 0 ∷ q .0 ∷ 0 ∷ []) after refl g)
 
 module _ (h : Handling) (sent : List Sent) (s : ℕ) (e : h ≡ handled sent s) (out after : List ℕ) where
   pub handled-so : (q : OwnState) → q .0 ≡ s → (n : ℕ) → n ≡ length (sent-bytes sent) → n ≤ length out → after ≡ sent-bytes sent ++ drop n out → HandledSo h out after (Given (Handled q n))
-  unfolding bytes-of-handling handling-values
+  unfolding reply-handling bytes-of-handling handling-values
   handled-so q z n f l g =
       let k : length (sent-bytes sent) ≤ length out = omega arith in
       rw e
-      (answered-by handling-values (reply-handling (handled sent s) out) (give (handled sent s) (sent-bytes sent)) (given-reply (handled sent s) out k) out
+      (answered-by handling-values (reply-handling (handled sent s) out) (give (handled sent s) (sent-bytes sent)) (room-given (handled sent s) (sent-bytes sent) out k) out
       (0 ∷ 1 ∷ q .0 ∷ n ∷ []) after (rw (z, f)) (g ∙ ap (λ (x : ℕ). sent-bytes sent ++ drop x out) f))
 
   pub short-so : length out < length (sent-bytes sent) → after ≡ out → HandledSo h out after (Refused Room)
-  unfolding bytes-of-handling
+  unfolding reply-handling bytes-of-handling
   short-so l g =
-      rw e (answered-by handling-values (reply-handling (handled sent s) out) (refuse 15) (short-reply (handled sent s) out l) out (15 ∷ []) after refl g)
+      rw e (answered-by handling-values (reply-handling (handled sent s) out) (refuse 15) (room-short (handled sent s) (sent-bytes sent) out l) out (15 ∷ []) after refl g)

@@ -1,5 +1,3 @@
-pub mod SendLaws
-pub mod RunLaws
 pub mod ClauseLaws
 pub mod HandleLaws
 pub mod HandlingLaws

@@ -2,10 +2,9 @@
 -- Assumes nothing.
 use Prim.Native.Nat.{ℕ}
 use mathlib.Core.List.{List, [], _∷_}
-use lib.Dec.{leb}
 use lib.ListN.{length}
 use Rattle.model.specs.Commands.{Handling, handled, ignored}
-use Rattle.model.specs.Replies.{Reply, give, check}
+use Rattle.model.specs.Replies.{Reply, in-room}
 use Rattle.children.specs.ChildList.{sent-bytes}
 
 unfoldable pub bytes-of-handling : Handling → List ℕ
@@ -14,7 +13,7 @@ bytes-of-handling (ignored q) = []
 
 -- 15: the room for what is sent
 unfoldable pub reply-handling : Handling → List ℕ → Reply Handling
-reply-handling h out = check (leb (length (bytes-of-handling h)) (length out)) 15 λ _. give h (bytes-of-handling h)
+reply-handling h out = in-room h (bytes-of-handling h) out
 
 -- the paper's values: 0 ignored, 1 handled, with the state and the number of bytes written
 unfoldable pub handling-values : Handling → List ℕ

@@ -1,9 +1,11 @@
 -- Laws about specs/Replies.antt: a reply that is known, and one told in another type.
 -- Assumes nothing.
-use Prim.Native.Nat.{ℕ}
+use Prim.Native.Nat.{ℕ, _<_, _≤_}
 use mathlib.Core.Path.{_≡_, refl, sym, ap, _∙_}
 use mathlib.Core.List.{List, _∷_}
-use Rattle.model.specs.Replies.{Reply, refuse, give, told-as, numbers, buffer-after, Answered}
+use lib.ListN.{length}
+use borrow.Author.Tests.{le-leb, lt-leb}
+use Rattle.model.specs.Replies.{Reply, refuse, give, in-room, told-as, numbers, buffer-after, Answered}
 
 -- a reply that is known is answered by what its numbers are, and leaves its buffer
 pub answered-by : {A : Type 0} (values : A → List ℕ) (reply r : Reply A) → reply ≡ r → (out ns after : List ℕ) → ns ≡ numbers values r → after ≡ buffer-after r out
@@ -14,6 +16,13 @@ answered-by {A} values reply r e out ns after f g =
 pub answered : {A : Type 0} (values : A → List ℕ) (reply r : Reply A) → reply ≡ r → (out after : List ℕ) → after ≡ buffer-after r out
     → Answered values reply out (numbers values r) after
 answered values reply r e out after f = answered-by values reply r e out (numbers values r) after refl f
+
+-- an answer that writes more bytes than the buffer holds is refused, and given where there is room
+pub room-short : {A : Type 0} (a : A) (bytes out : List ℕ) → length out < length bytes → in-room a bytes out ≡ refuse 15
+room-short a bytes out l = rw (lt-leb (length bytes) (length out) l)
+
+pub room-given : {A : Type 0} (a : A) (bytes out : List ℕ) → length bytes ≤ length out → in-room a bytes out ≡ give a bytes
+room-given a bytes out l = rw (le-leb (length bytes) (length out) l)
 
 -- a reply has one answer's numbers, and leaves one buffer
 pub answered-once : {A : Type 0} (values : A → List ℕ) (reply : Reply A) (out ns ms after rest : List ℕ)

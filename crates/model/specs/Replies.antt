@@ -4,6 +4,7 @@ use Prim.Native.Nat.{ℕ}
 use mathlib.Core.Path.{_≡_}
 use mathlib.Core.Bool.{Bool}
 use mathlib.Core.List.{List, [], _∷_, _++_}
+use lib.Dec.{leb}
 use lib.ListN.{length, drop}
 use Rattle.model.specs.Words.{choose}
 
@@ -15,6 +16,10 @@ pub data Reply (A : Type 0) : Type 0 where
 -- a check: its refusal, or what the checks behind it give; they are read only where it passed
 abbrev pub check : {A : Type 0} → Bool → ℕ → (Unit {0} → Reply A) → Reply A
 check ok n rest = choose ok rest (λ _. refuse n)
+
+-- 15: an answer that writes these bytes, where the lent buffer has room for them
+abbrev pub in-room : {A : Type 0} → A → List ℕ → List ℕ → Reply A
+in-room a bytes out = check (leb (length bytes) (length out)) 15 λ _. give a bytes
 
 -- the same reply, its answer told in another type
 abbrev pub told-as : {A B : Type 0} → (A → B) → Reply A → Reply B

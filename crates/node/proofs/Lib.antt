@@ -1,5 +1,4 @@
 pub mod ValueLaws
 pub mod Agree
 pub mod ProbeLaws
-pub mod PhaseLaws
 pub mod Unique

@@ -1,44 +1,36 @@
--- Laws about specs/Probing.antt: the first clause whose guard is true on the sets is what the tree's probe finds, and what follows from it.
+-- Laws about specs/Probing.antt: the first clause whose guard is true on the sets is what the tree's probe finds.
 -- Assumes nothing.
 use Prim.Native.Nat.{ℕ, zero, suc, _+_, _*_, _<_, _≤_}
 use native.Mathlib.Omega.{arith}
-use mathlib.Core.Path.{_≡_, refl, sym, _∙_, ap, subst}
+use mathlib.Core.Path.{_≡_, refl, sym, _∙_, ap}
 use mathlib.Core.Bool.{Bool, true, false}
 use mathlib.Core.List.{List}
 use mathlib.Core.Logic.{_⊎_, inl, inr}
-use lib.ListN.{length, getD, List·getD-eq-default}
+use lib.ListN.{length, List·getD-eq-default}
 use Rattle.model.specs.Words.{listed}
-use Rattle.model.specs.Tree.{Child, everyone, any-in, atom, run, stay, When, Action, State, no-action}
+use Rattle.model.specs.Tree.{Child, When, State}
 use Rattle.model.specs.Guards.{holds}
-use Rattle.model.specs.Node.{state-of, nothing, found, first-true, probe, command-of, turn-for, turn}
-use Rattle.model.specs.Sound.{ReferrerRight}
+use Rattle.model.specs.Node.{state-of, nothing, found, first-true, probe}
 use Rattle.model.proofs.Words.{lt-or-le, below-next, least-some, least-none, least-found, least-not, least-told}
-use Rattle.model.proofs.NodeLaws.{getD-mem, probe-found}
 use Rattle.records.specs.Bytes.{byte}
 use Rattle.sheet.specs.Contents.{body, bodies}
-use Rattle.bodies.specs.Clauses.{when-count, action-count, first-action, guard-place, referrer-number, target, action-command, referrer-of}
+use Rattle.bodies.specs.Clauses.{when-count, guard-place, referrer-number, target, referrer-of}
 use Rattle.records.specs.Bytes.{in-fours}
 use Rattle.records.specs.GuardRecords.{guard-from}
 use Rattle.sheet.specs.Verdict.{Stands}
-use Rattle.sheet.specs.Reading.{when-in, action-in, state-in, class-in, class-of}
+use Rattle.sheet.specs.Reading.{when-in, state-in, class-of}
 use Rattle.model.specs.Answers.{referrer-as}
 use Rattle.accepted.specs.Runs.{RunIs}
 use Rattle.sheet.specs.declared.judging.Places.{Places}
 use Rattle.accepted.specs.declared.readers.Run.{Run}
-use Rattle.model.specs.declared.Referrer.the-variants.{MoveTo, Do, Stay}
 use Rattle.model.specs.declared.Referrer.{Referrer}
 use Rattle.sheet.proofs.Contents.{counted}
 use Rattle.accepted.proofs.ReaderLaws.{stands-right}
-use Rattle.sheet.proofs.Rules.{accepted-right}
-use Rattle.sheet.proofs.Reading.{state-of-in, state-of-past, actions-in, action-of-in, mem-whens}
-use Rattle.sheet.proofs.Sound.{referrers-in}
+use Rattle.sheet.proofs.Reading.{state-of-in, state-of-past}
 use Rattle.node.specs.Values.{truth-of}
-use Rattle.node.specs.Probing.{clause-true, first-hit, Probes, Turns}
+use Rattle.node.specs.Probing.{clause-true, first-hit, Probes}
 use Rattle.children.specs.NameSets.{Crewed}
-use Rattle.model.specs.declared.Probed.{Probed}
 use Rattle.model.specs.declared.Probed.the-variants.{Nothing, Found}
-use Rattle.model.specs.declared.Ending.the-variants.{ByNone, ByStay, ByDo}
-use Rattle.node.specs.declared.probing.Turn.the-variants.{Stops, Moves}
 use Rattle.node.proofs.Agree.{truth-agree}
 
 -- a clause's truth, read of the bodies
@@ -46,11 +38,6 @@ pub clause-told : (b sets whens guards : List ℕ) (w place : ℕ) (r : Bool) �
     → r ≡ truth-of sets (guard-from guards place) → r ≡ clause-true b sets w
 unfolding clause-true
 clause-told b sets whens guards w place r e f g h = rw (h, g, f, e)
-
--- an action clause's command, read of the bodies
-pub command-read : (b actions : List ℕ) (q a m : ℕ) (r : Run) → RunIs r (body b 1) 2 q → actions ≡ body b 4
-    → m ≡ action-command actions (r .first + a) → m ≡ action-command (body b 4) (first-action (body b 1) q + a)
-command-read b actions q a m r i e f = f ∙ rw (e, i .first-is)
 
 -- a turn of the search: none of the clauses before the i-th of n is true
 pub record NoneBefore (b sets : List ℕ) (first n i : ℕ) : Type 0 where
@@ -159,36 +146,3 @@ module _ (b : List ℕ) (p : Places) (stands : Stands b p) (q : ℕ) where
             (sym (clause-agree b sets ks crewed (r .first + k)) ∙ h .true-here)
             (λ j x z m. rw z (sym (clause-agree b sets ks crewed (r .first + j)) ∙ h .none-true j m))))
         go (inr l) = absurd (omega (arith, h .inside, run-is .count-is, no-count l))
-
-  -- the command of the action clause that a clause found of state q runs
-  command-told : (ks : List Child) (i a : ℕ) → probe (class-of b) ks q ≡ found i (run a) → command-of (class-of b) q a ≡ action-command (body b 4) (first-action (body b 1) q + a)
-  unfolding class-of bodies action-in
-  command-told ks i a e =
-      let s = bodies b in
-      let d : When = record { guard = atom any-in everyone 0; referrer = stay } in
-      let H = probe-found (class-in s) ks d q i (run a) e in
-      let m = getD-mem (state-of (class-in s) q .whens) i d (H .listed) in
-      let (j, l, u, z) = mem-whens s q (getD (state-of (class-in s) q .whens) i d) m in
-      let right : a < length (state-of (class-in s) q .actions) = subst (ReferrerRight (class-in s) q) (H .referrer) (referrers-in s (accepted-right b (stands .accepted) .bodies) q (getD (state-of (class-in s) q .whens) i d) m) in
-      let low : a < action-count (body b 1) q = rw (actions-in s q l) at right in
-      ap (λ (x : Action). x .command) (action-of-in s q a no-action l low)
-
-  -- what follows from the probe's answer
-  module _ (sets : List ℕ) (r : Probed) (probes : Probes b sets q r) where
-    pub turns-none : r ≡ Nothing → Turns b sets q (Stops ByNone)
-    unfolding turn turn-for
-    turns-none e ks crewed = rw (sym (rw e at (probes ks crewed)))
-
-    pub turns-moves : (i : ℕ) (x : Referrer) → r ≡ Found i x → (t : _) → x ≡ MoveTo t → Turns b sets q (Moves t)
-    unfolding turn turn-for
-    turns-moves i x e t f ks crewed = rw (sym (rw (e, f) at (probes ks crewed)))
-
-    pub turns-stay : (i : ℕ) (x : Referrer) → r ≡ Found i x → x ≡ Stay → Turns b sets q (Stops ByStay)
-    unfolding turn turn-for
-    turns-stay i x e f ks crewed = rw (sym (rw (e, f) at (probes ks crewed)))
-
-    pub turns-do : (i : ℕ) (x : Referrer) → r ≡ Found i x → (a : ℕ) → x ≡ Do a → (m : ℕ) → m ≡ action-command (body b 4) (first-action (body b 1) q + a) → Turns b sets q (Stops (ByDo m))
-    unfolding turn turn-for
-    turns-do i x e a f m g ks crewed =
-        let p : found i (run a) ≡ probe (class-of b) ks q = rw (e, f) at (probes ks crewed) in
-        rw (sym p, command-told ks i a (sym p), g)

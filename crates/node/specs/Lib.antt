@@ -1,5 +1,4 @@
 pub mod Sets
 pub mod Values
 pub mod Probing
-pub mod Phases
 pub mod Unique

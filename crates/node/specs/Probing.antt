@@ -11,12 +11,10 @@ use Rattle.sheet.specs.Contents.{body}
 use Rattle.bodies.specs.Clauses.{guard-place}
 use Rattle.records.specs.GuardRecords.{guard-from}
 use Rattle.sheet.specs.Reading.{class-of}
-use Rattle.model.specs.Answers.{probed-as, ending-as}
+use Rattle.model.specs.Answers.{probed-as}
 use Rattle.children.specs.NameSets.{Crewed}
 use Rattle.node.specs.Values.{truth-of}
 use Rattle.model.specs.declared.Probed.{Probed}
-use Rattle.node.specs.declared.probing.Turn.{Turn}
-use Rattle.node.specs.declared.probing.Turn.the-variants.{Stops, Moves}
 
 -- when clause w's guard on the sets
 unfoldable pub clause-true : List ℕ → List ℕ → ℕ → Bool
@@ -26,14 +24,6 @@ clause-true b sets w = truth-of sets (guard-from (body b 3) (guard-place (body b
 unfoldable pub first-hit : List ℕ → List ℕ → ℕ → ℕ → ℕ
 first-hit b sets first n = maybe (least n (λ i. clause-true b sets (first + i))) (λ _. n) (λ i. i)
 
--- the code's turn, as the tree has it
-abbrev pub turn-as : Turn → Tree.Turn
-turn-as (Stops e) = Tree.stops (ending-as e)
-turn-as (Moves t) = Tree.moves (t .0)
-
 -- the answer is the tree's, whatever child list the sets show
 abbrev pub Probes : List ℕ → List ℕ → ℕ → Probed → Type 0
 Probes b sets q r = (ks : List Child) → Crewed sets ks → probed-as r ≡ Tree.probe (class-of b) ks q
-
-abbrev pub Turns : List ℕ → List ℕ → ℕ → Turn → Type 0
-Turns b sets q r = (ks : List Child) → Crewed sets ks → turn-as r ≡ Tree.turn (class-of b) ks q

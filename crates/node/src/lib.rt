@@ -1,4 +1,3 @@
-// The node: guards evaluated on one name set per class, the probe and the when phase on an accepted sheet.
-pub mod phases;
+// The node: guards evaluated on one name set per class, and the probe on an accepted sheet.
 pub mod probing;
 pub mod values;

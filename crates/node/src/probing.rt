@@ -1,32 +1,19 @@
 // The probe: the first clause of a state whose guard is true.
 use crate::values::guard_true;
-use accepted::held::ACTIONS;
 use accepted::held::GUARDS;
 use accepted::held::WHENS;
 use accepted::readers::body_of;
 use accepted::readers::clauses_of;
-use bodies::clauses::ACTION_CLAUSES;
 use bodies::clauses::WHEN_CLAUSES;
-use bodies::clauses::action_command;
 use bodies::clauses::guard_place;
 use bodies::clauses::referrer_at;
-use model::Ending;
 use model::OwnState;
 use model::Probed;
-use model::Referrer;
 use sheet::judging::Places;
 ghost use mathlib.Core.Path.{_≡_};
-ghost use Prim.Native.Nat.{_+_, _<_, _≤_};
-ghost use Rattle.sheet.specs.Contents.{body};
-ghost use Rattle.bodies.specs.Clauses.{first-action, action-command};
+ghost use Prim.Native.Nat.{_<_, _≤_};
 ghost use Rattle.sheet.specs.Verdict.{Stands};
-ghost use Rattle.node.specs.Probing.{clause-true, first-hit, Probes, Turns};
-
-// One turn of the when phase: it ends, or the node moves.
-pub enum Turn {
-    Stops(Ending),
-    Moves(OwnState),
-}
+ghost use Rattle.node.specs.Probing.{clause-true, first-hit, Probes};
 
 // When clause w's guard is true.
 fn clause_holds(sheet: &[u8], p: Places, w: usize, sets: [u32; 8]) -> bool
@@ -67,30 +54,4 @@ pub fn probe(sheet: &[u8], p: Places, q: OwnState, sets: [u32; 8]) -> Probed
         return Probed::Nothing;
     }
     Probed::Found(hit, referrer_at(body_of(sheet, p, WHENS), first + hit))
-}
-
-// The command of action clause a of state q.
-fn command_of(sheet: &[u8], p: Places, q: OwnState, a: u8) -> u8
-    requires { ⌜ Stands (now sheet) p ⌝ }
-    ensures { λ r. ⌜ r ≡ action-command (body (now (sheet .entry)) 4) (first-action (body (now (sheet .entry)) 1) (q .0) + a) ⌝ }
-{
-    let clauses = clauses_of(sheet, p, q, ACTION_CLAUSES);
-    let first = clauses.first;
-    action_command(body_of(sheet, p, ACTIONS), first + (a as usize))
-}
-
-// What follows from the probe of state q.
-pub fn turn_from(sheet: &[u8], p: Places, q: OwnState, sets: [u32; 8]) -> Turn
-    requires { ⌜ Stands (now sheet) p ⌝ }
-    ensures { λ r. ⌜ Turns (now (sheet .entry)) sets (q .0) r ⌝ }
-{
-    let probed = probe(sheet, p, q, sets);
-    let Probed::Found(_, referrer) = probed else {
-        return Turn::Stops(Ending::ByNone);
-    };
-    match referrer {
-        Referrer::MoveTo(t) => Turn::Moves(t),
-        Referrer::Do(a) => Turn::Stops(Ending::ByDo(command_of(sheet, p, q, a))),
-        Referrer::Stay => Turn::Stops(Ending::ByStay),
-    }
 }

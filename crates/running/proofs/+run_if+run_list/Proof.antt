@@ -11,23 +11,23 @@ use Rattle.bodies.specs.StatementReaders.{statement-record}
 use Rattle.bodies.specs.declared.statements.StatementRecord.{StatementRecord}
 use Rattle.bodies.specs.declared.statements.StatementRecord.the-variants.{Do, If}
 use Rattle.bodies.proofs.ReaderLaws.{told, behind-falls, parts-fall}
-use Rattle.commands.proofs.RunLaws.{room-send, room-sent, room-in, room-ran, run-in, run-nothing, run-go, run-sent, run-moved, run-on}
+use Rattle.running.proofs.RunLaws.{room-send, room-sent, room-in, room-ran, run-in, run-nothing, run-go, run-sent, run-moved, run-on}
 use borrow.Fn.Kinds.{In}
 use borrow.Fn.PlainCycle.{Measures, is, falls, and}
-use Rattle.commands.proofs.run_if.Reads as run-if
-use Rattle.commands.proofs.run_if.Kinds as run-if-kinds
-use Rattle.commands.proofs.+run_if+run_list.Lts-run_if as run-if-lts
-use Rattle.commands.proofs.run_list.Reads as run-list
-use Rattle.commands.proofs.run_list.Kinds as run-list-kinds
-use Rattle.commands.proofs.+run_if+run_list.Lts-run_list as run-list-lts
+use Rattle.running.proofs.run_if.Reads as run-if
+use Rattle.running.proofs.run_if.Kinds as run-if-kinds
+use Rattle.running.proofs.+run_if+run_list.Lts-run_if as run-if-lts
+use Rattle.running.proofs.run_list.Reads as run-list
+use Rattle.running.proofs.run_list.Kinds as run-list-kinds
+use Rattle.running.proofs.+run_if+run_list.Lts-run_list as run-list-lts
 use Rattle.bodies.proofs.statements.behind_statement.Reads as behind-statement-reads
 use Rattle.bodies.proofs.statements.else_part.Reads as else-part-reads
 use Rattle.bodies.proofs.statements.statement_record.Reads as statement-record-reads
 use Rattle.bodies.proofs.statements.then_part.Reads as then-part-reads
-use Rattle.commands.proofs.send.Reads as send-reads
+use Rattle.running.proofs.send.Reads as send-reads
 use Rattle.node.proofs.values.guard_true.Reads as guard-true-reads
-use Rattle.commands.proofs.+run_if+run_list.{statement}
-use Rattle.commands.proofs.+run_if+run_list.Tie.{close}
+use Rattle.running.proofs.+run_if+run_list.{statement}
+use Rattle.running.proofs.+run_if+run_list.Tie.{close}
 
 abbrev μ-run-if : Measures 4 run-if-kinds.ps ℕ
 μ-run-if κs a = 2 * length (a .1 .1 .1 .1 .0 .now)

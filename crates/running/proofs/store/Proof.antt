@@ -3,8 +3,8 @@
 use mathlib.Core.Path.{sym}
 use lib.Seq.{set-out}
 use borrow.Author.Needs.{needs}
-use Rattle.commands.proofs.store.Statement.{statement}
-use Rattle.commands.proofs.store.Tie as tie
+use Rattle.running.proofs.store.Statement.{statement}
+use Rattle.running.proofs.store.Tie as tie
 
 returns-2 : tie.Need-returns-2
 returns-2 c = sym (set-out _ _ _ (c .if1 .left))

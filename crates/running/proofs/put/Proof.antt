@@ -1,10 +1,10 @@
 -- Three stores, one place apart.
 -- Assumes nothing.
-use Rattle.commands.proofs.SendLaws.{stored}
+use Rattle.running.proofs.SendLaws.{stored}
 use Prim.Native.Nat.{_%_}
 use borrow.Author.Needs.{needs}
-use Rattle.commands.proofs.put.Statement.{statement}
-use Rattle.commands.proofs.put.Tie as tie
+use Rattle.running.proofs.put.Statement.{statement}
+use Rattle.running.proofs.put.Tie as tie
 
 returns : tie.Need-returns
 returns c =

@@ -1,9 +1,9 @@
 -- `is_meant`: every child is one of all; of one class, those of that class.
 -- Assumes nothing.
 use borrow.Author.Needs.{needs}
-use Rattle.commands.proofs.SendLaws.{all-meant, one-meant}
-use Rattle.commands.proofs.is_meant.Statement.{statement}
-use Rattle.commands.proofs.is_meant.Tie as tie
+use Rattle.running.proofs.SendLaws.{all-meant, one-meant}
+use Rattle.running.proofs.is_meant.Statement.{statement}
+use Rattle.running.proofs.is_meant.Tie as tie
 
 returns : tie.Need-returns
 returns c = rw (c .enum-told .given .1) (all-meant _)

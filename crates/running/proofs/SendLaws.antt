@@ -11,9 +11,9 @@ use lib.Seq.{sets, length-sets, drop-cons}
 use Rattle.model.specs.Words.{kept}
 use Rattle.model.specs.Tree.{Child, Pattern, everyone, of-class}
 use Rattle.model.specs.Guards.{concerns}
-use Rattle.model.specs.Commands.{Sent, sent-to}
+use Rattle.model.specs.Running.{Sent, sent-to}
 use Rattle.children.specs.ChildList.{children-of, sent-bytes}
-use Rattle.commands.specs.Commands.{concerned, Writes}
+use Rattle.running.specs.Running.{concerned, Writes}
 use Rattle.children.proofs.CrewLaws.{no-pair}
 
 -- a run of stores in two parts

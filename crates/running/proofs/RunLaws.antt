@@ -12,7 +12,7 @@ use lib.Seq.{sets}
 use Rattle.model.specs.Words.{maybe}
 use Rattle.model.specs.Tree.{Child, Guard, Statement, send, branch, Part, _then_}
 use Rattle.model.specs.Guards.{holds}
-use Rattle.model.specs.Commands as Tree
+use Rattle.model.specs.Running as Tree
 use Rattle.model.specs.declared.OwnState.{OwnState}
 use Rattle.records.specs.GuardRecords.{got, guard-from}
 use Rattle.records.specs.Patterns.{pattern-as}
@@ -27,10 +27,10 @@ use Rattle.children.specs.ChildList.{children-of, sent-bytes}
 use Rattle.node.specs.Values.{truth-of}
 use Rattle.children.specs.NameSets.{Crewed}
 use Rattle.node.proofs.Agree.{agree}
-use Rattle.commands.specs.Commands.{Writes, Counted, Does, Room, RunsPart, RunsIf}
-use Rattle.commands.specs.declared.Moved.the-variants.{Not, To}
-use Rattle.commands.specs.declared.Ran.{Ran}
-use Rattle.commands.proofs.SendLaws.{sets-append, bytes-append, bytes-sum}
+use Rattle.running.specs.Running.{Writes, Counted, Does, Room, RunsPart, RunsIf}
+use Rattle.running.specs.declared.Moved.the-variants.{Not, To}
+use Rattle.running.specs.declared.Ran.{Ran}
+use Rattle.running.proofs.SendLaws.{sets-append, bytes-append, bytes-sum}
 
 -- a run, and the run after it, which sends too unless the first moved
 module _ (a b : Tree.Ran) where

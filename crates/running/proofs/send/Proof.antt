@@ -4,9 +4,9 @@ use Prim.Native.Nat.{_-_, _/_}
 use borrow.Author.Needs.{needs}
 use lib.ListN.{length}
 use Rattle.records.specs.Patterns.{pattern-as}
-use Rattle.commands.proofs.SendLaws.{Sending, sent-told, send-more, send-past, send-end}
-use Rattle.commands.proofs.send.Statement.{statement}
-use Rattle.commands.proofs.send.Tie as tie
+use Rattle.running.proofs.SendLaws.{Sending, sent-told, send-more, send-past, send-end}
+use Rattle.running.proofs.send.Statement.{statement}
+use Rattle.running.proofs.send.Tie as tie
 
 abbrev Inv-loop : tie.InvT-loop
 Inv-loop list pattern command out₀ at end₀ i₀ out end i = Sending list (pattern-as pattern) command out₀ at out end i

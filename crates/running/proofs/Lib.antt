@@ -1,0 +1,3 @@
+pub mod SendLaws
+pub mod RunLaws
+pub mod ActionLaws
