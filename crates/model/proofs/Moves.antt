@@ -145,6 +145,12 @@ module _ (next : Next) where
       let g : after next (i + suc n) q ≡ some t = after-add i (suc n) q s e ∙ f in
       clash (cc (g, after-ended q n r (i + suc n) E (omega arith)))
 
+  -- a phase that comes to a state twice never ends
+  pub never-twice : (q i j s : ℕ) → i < j → after next i q ≡ some s → after next j q ≡ some s → Ends next q → ⊥
+  never-twice q i j s l e f =
+      let z : i + suc (j - suc i) ≡ j = omega arith in
+      never-past q i s e (j - suc i, sym (after-add i (suc (j - suc i)) q s e) ∙ rw z f)
+
   -- a state that returns never ends
   pub never-if-returns : (q : ℕ) → Returns next q → Ends next q → ⊥
   never-if-returns q = never-past q 0 q (after-zero q)

@@ -135,6 +135,15 @@ module _ (c : Class) (ks : List Child) where
   unfolding next
   moves-next q t sent h = ap moved h
 
+  -- only a turn that moves makes a move
+  pub next-moves : (q t : ℕ) → next c ks q ≡ some t → (sent : List Sent) × (turn c ks q ≡ moves t sent)
+  unfolding next
+  next-moves q t h = go (turn c ks q) refl h
+    where
+      go : (x : Turn) → turn c ks q ≡ x → moved x ≡ some t → (sent : List Sent) × (turn c ks q ≡ moves t sent)
+      go (stops e sent) p g = absurd (clash (cc))
+      go (moves u sent) p g = let z : u ≡ t = cc in (sent, p ∙ ap (λ (v : ℕ). moves v sent) z)
+
   -- the next move is where the probe leads
   pub next-by : (q : ℕ) → next c ks q ≡ led c ks q (probe c ks q)
   unfolding next turn
