@@ -1,3 +1,2 @@
 pub mod Phasing
 pub mod Phases
-pub mod Unique
