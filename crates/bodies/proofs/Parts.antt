@@ -146,3 +146,11 @@ body-sized K S gs actions statements a p e =
     let all = records (in-eights statements) statements in
     let h = of-some (λ p. part-size p ≤ length rs) (part-at 8 K S gs rs) p e (part-at-sized 8 K S gs rs) in
     omega (arith, length-take (statement-count actions a) (drop (first-statement actions a) all), length-drop (first-statement actions a) all, length-records (in-eights statements) statements)
+
+-- nor more than its own record counts
+pub body-counted : (K S : ℕ) (gs actions statements : List ℕ) (a : ℕ) (p : Part) → body-of K S gs actions statements a ≡ some p → part-size p ≤ statement-count actions a
+unfolding body-of statements-of
+body-counted K S gs actions statements a p e =
+    let rs = statements-of actions statements a in
+    let h = of-some (λ p. part-size p ≤ length rs) (part-at 8 K S gs rs) p e (part-at-sized 8 K S gs rs) in
+    omega (arith, length-take (statement-count actions a) (drop (first-statement actions a) (records (in-eights statements) statements)))

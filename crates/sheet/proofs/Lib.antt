@@ -3,6 +3,7 @@ pub mod Contents
 pub mod Rules
 pub mod Reading
 pub mod Sound
+pub mod Sizes
 pub mod JudgeLaws
 pub mod PlaceLaws
 pub mod VerdictLaws
