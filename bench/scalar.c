@@ -10,9 +10,12 @@
 #include <stdlib.h>
 
 enum { MOST_CELLS = 20, MOST_CLASSES = 8, MOST_STATES = 32, MOST_WHENS = 256, MOST_GUARDS = 1024, MOST_BYTES = 18616 };
-enum { CLASSES, STATES, WHENS, GUARDS, BODIES = 6 };              /* in contents order; the last two are not needed */
-enum { ANY_IN, ANY_NOT_IN, ALL_IN, ALL_NOT_IN, AND, OR, NOT };    /* kinds of guard records */
-enum { MOVE_TO = 0, EVERY_CHILD = 255 };
+enum { MOST_ACTIONS = 256, MOST_STATEMENTS = 1024 };
+enum { CLASSES, STATES, WHENS, GUARDS, ACTIONS, STATEMENTS, BODIES };    /* in contents order */
+enum { ANY_IN, ANY_NOT_IN, ALL_IN, ALL_NOT_IN, AND, OR, NOT };           /* kinds of guard records */
+enum { SEND, GO, IF };                                                   /* kinds of statements: do, move_to, if */
+enum { MOVE_TO, DO, STAY };                                              /* referrers */
+enum { EVERY_CHILD = 255 };
 
 /* A name of a child class. Bit i of a configuration stands for cell i. */
 struct cell { uint8_t of_class, name; };
@@ -21,15 +24,18 @@ static uint8_t sheet[MOST_BYTES + 1];
 static struct { unsigned start, count; } body[BODIES];
 static struct cell cells[MOST_CLASSES * 32];
 static unsigned cell_count;
-static uint16_t ends[MOST_GUARDS + 1];    /* where the guard that begins at each record ends */
-static uint32_t names[MOST_CLASSES];      /* the names that occur in each class, in the present configuration */
-static int next[MOST_STATES];             /* the state that each state moves to there, or -1 */
+static uint16_t ends[MOST_GUARDS + 1];            /* where the guard that begins at each record ends */
+static unsigned first_when[MOST_STATES + 1];      /* state s has the clauses from first_when[s] to before first_when[s + 1] */
+static unsigned first_action[MOST_STATES + 1];
+static unsigned first_statement[MOST_ACTIONS + 1];
+static uint32_t names[MOST_CLASSES];              /* the names that occur in each class, in the present configuration */
+static int next[MOST_STATES];                     /* the state that each state moves to there, or -1 */
 
 static unsigned u16(const uint8_t *p) { return p[0] | (unsigned)p[1] << 8; }
 static uint32_t u32(const uint8_t *p) { return u16(p) | (uint32_t)u16(p + 2) << 16; }
 
 /* The bytes of a record. */
-static const uint8_t *record(int b, unsigned i) { return sheet + body[b].start + i * (b == GUARDS ? 8 : 4); }
+static const uint8_t *record(int b, unsigned i) { return sheet + body[b].start + i * (b == GUARDS || b == STATEMENTS ? 8 : 4); }
 
 /* Says what is wrong and ends the program. */
 static void fail(const char *what)
@@ -41,7 +47,7 @@ static void fail(const char *what)
 /* Reads the sheet and where its bodies are. */
 static void read_sheet(void)
 {
-    static const unsigned bytes[BODIES] = {4, 4, 4, 8, 4, 8}, most[BODIES] = {MOST_CLASSES, MOST_STATES, MOST_WHENS, MOST_GUARDS, 256, 1024};
+    static const unsigned bytes[BODIES] = {4, 4, 4, 8, 4, 8}, most[BODIES] = {MOST_CLASSES, MOST_STATES, MOST_WHENS, MOST_GUARDS, MOST_ACTIONS, MOST_STATEMENTS};
     size_t size = fread(sheet, 1, sizeof sheet, stdin);
     if (size < 24 || size > MOST_BYTES) fail("standard input has under 24 or over 18616 bytes, so it is no class sheet");
     for (int b = 0; b < BODIES; b++) {
@@ -70,6 +76,12 @@ static void find_ends(void)
         unsigned kind = *record(GUARDS, i);
         ends[i] = kind < AND ? (uint16_t)(i + 1) : kind == NOT ? ends[i + 1] : ends[ends[i + 1]];
     }
+}
+
+/* Sums the counts in the records of a body: where the clauses of each state, or the statements of each clause, begin. */
+static void find_firsts(int b, int at, unsigned *first)
+{
+    for (unsigned i = 0; i < body[b].count; i++) first[i + 1] = first[i] + u16(record(b, i) + at);
 }
 
 /* Spreads a configuration into one name set per class. Whether it counts: every class has a name. */
@@ -111,25 +123,35 @@ static int holds(unsigned at)
     }
 }
 
-/* Where a state moves to that has these when clauses: by the first true one, if it moves. Else -1. */
-static int probe(unsigned clause, unsigned behind)
+/* Runs statements, up to the first move_to that is reached: its state. -1 where none is. */
+static int run(unsigned at, unsigned behind)
 {
-    for (; clause < behind; clause++) {
-        const uint8_t *r = record(WHENS, clause);
-        if (holds(u16(r))) return r[2] == MOVE_TO ? r[3] : -1;
+    while (at < behind) {
+        const uint8_t *r = record(STATEMENTS, at);
+        unsigned then_part = at + 1, else_part = then_part, end = then_part;
+        int to = -1;
+        if (r[0] == GO) return r[1];
+        if (r[0] == IF) {
+            else_part = then_part + u16(r + 4);
+            end = else_part + u16(r + 6);
+            to = holds(u16(r + 2)) ? run(then_part, else_part) : run(else_part, end);
+        }
+        if (to >= 0) return to;
+        at = end;
     }
     return -1;
 }
 
-/* Probes each state once. */
-static void probe_states(void)
+/* Where a state moves to by its first true when clause, itself or by the action clause that it runs. Else -1. */
+static int probe(unsigned s)
 {
-    unsigned clause = 0;
-    for (unsigned s = 0; s < body[STATES].count; s++) {
-        unsigned behind = clause + u16(record(STATES, s));
-        next[s] = probe(clause, behind);
-        clause = behind;
+    for (unsigned clause = first_when[s]; clause < first_when[s + 1]; clause++) {
+        const uint8_t *r = record(WHENS, clause);
+        unsigned action = first_action[s] + r[3];
+        if (!holds(u16(r))) continue;
+        return r[2] == MOVE_TO ? r[3] : r[2] == DO ? run(first_statement[action], first_statement[action + 1]) : -1;
     }
+    return -1;
 }
 
 /* Whether a state returns to itself, by at most as many moves as there are states. Where its phase ends, counts its moves in. */
@@ -166,9 +188,12 @@ int main(void)
         return 0;
     }
     find_ends();
+    find_firsts(STATES, 0, first_when);
+    find_firsts(STATES, 2, first_action);
+    find_firsts(ACTIONS, 2, first_statement);
     for (uint32_t k = 0; k >> cell_count == 0; k++) {
         if (!spread(k)) continue;
-        probe_states();
+        for (unsigned s = 0; s < body[STATES].count; s++) next[s] = probe(s);
         for (int q = 0; q < (int)body[STATES].count; q++)
             if (returns(q, &longest)) {
                 tell_loop(k, q);

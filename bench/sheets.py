@@ -271,6 +271,37 @@ def sized_guard(dice, classes, records):
     return (dice.of([AND, OR]), sized_guard(dice, classes, left), sized_guard(dice, classes, records - 1 - left))
 
 
+def coin(dice, sheet):
+    """An atom on one cell, true in half of all configurations; the cell is one of the first six, which differ within a block, or any."""
+    c, n = dice.of([dice.of(sheet.cells()[:6]), dice.of(sheet.cells())])
+    return (dice.of([ANY_IN, ALL_NOT_IN]), c, 1 << n)
+
+
+# ---- statements
+
+def ladder(dice, places, leaf):
+    """Ifs inside one another, one for each guard's place; what `leaf` gives stands innermost and in half of the other parts."""
+    if not places:
+        return leaf()
+    inner, other = ladder(dice, places[1:], leaf), leaf() if dice.chance(50) else []
+    return if_(places[0], *dice.of([(inner, other), (other, inner)]))
+
+
+def drawn_statements(dice, places, targets, deep=0):
+    """Some statements, with ifs at most eight deep; a move_to leads to one of the targets."""
+    statements = []
+    for _ in range(dice.of([0, 1, 1, 2])):
+        what = dice.below(100)
+        if what < 45 and deep < 8:
+            parts = [drawn_statements(dice, places, targets, deep + 1) for _ in range(2)]
+            statements += if_(dice.of(places), *parts)
+        elif what < 75 and targets:
+            statements.append(move_to(dice.of(targets)))
+        else:
+            statements.append(do(dice.below(64), EVERY_CHILD))
+    return statements
+
+
 # ---- the sheets that are timed
 
 def class_sets(counts):
@@ -305,6 +336,33 @@ def usual(seed, counts):
     return sheet
 
 
+def doing(seed, counts):
+    """A usual class in which half of the moves are made by action clauses: each sends, then has ifs inside one another, eight deep, and
+    behind them moves as the when clause did. All moves lead to later states, so it is free."""
+    sheet, dice = usual(seed, counts), Dice(100 + seed)
+    states = len(sheet.whens)
+    for s, whens in enumerate(sheet.whens):
+        def leaf():
+            return [dice.of([do(dice.below(20), EVERY_CHILD), move_to(s + 1 + dice.below(min(4, states - 1 - s)))])]
+
+        for i, (place, referrer, target) in enumerate(whens):
+            if referrer == MOVE_TO and dice.chance(50):
+                places = [sheet.guard(coin(dice, sheet)) for _ in range(8)]
+                whens[i] = (place, DO, sheet.action(s, [do(i, 0)] + ladder(dice, places, leaf) + [move_to(target)]))
+    return sheet
+
+
+def doing_with_a_loop(seed, counts, k):
+    """Such a class with a move back, from the last state to the one before, under an if that is true in configuration k alone."""
+    sheet = doing(seed, counts)
+    last = len(sheet.whens) - 1
+    place, always = sheet.guard(exactly(sheet, k)), sheet.guard((ALL_IN, EVERY_CHILD, 2**32 - 1))
+    back = sheet.action(last, [do(1, EVERY_CHILD)] + if_(place, [do(2, 0), move_to(last - 1)], []) + [do(3, EVERY_CHILD)])
+    sheet.whens[last].insert(0, (always, DO, back))
+    sheet.whens[last - 1].insert(0, (place, MOVE_TO, last))
+    return sheet
+
+
 def usual_with_a_loop(seed, counts, k):
     """A usual class with a move back, from the last state to the one before, in configuration k alone."""
     sheet = usual(seed, counts)
@@ -316,8 +374,8 @@ def usual_with_a_loop(seed, counts, k):
 
 
 def largest():
-    """32 states, 256 when clauses, 1,024 guard records, all used; 256 action clauses, 1,024 statements. Where the sixth cell is not
-    chosen, each state moves to the next: 31 moves, in every block that counts."""
+    """32 states, 256 when clauses, 1,024 guard records, all used; 256 action clauses, 1,024 statements, of which few are run. Where the
+    sixth cell is not chosen, each state moves to the next: 31 moves, in every block that counts."""
     dice, states = Dice(31), 32
     sheet = Sheet(class_sets([10, 10]), states)
     of_class, name = sheet.cells()[5]
@@ -336,8 +394,53 @@ def largest():
         sure = (OR, (ANY_IN, 1, names), (ANY_NOT_IN, 1, names))
         sheet.when(s, sure, *((MOVE_TO, s + 1) if s + 1 < states else (STAY,)))
         for i in range(8):
-            place = sheet.whens[s][i][0]
-            sheet.action(s, if_(place, [do(i, EVERY_CHILD)], [do(i + 8, 0)]) + [move_to(dice.below(states))])
+            place, step = sheet.whens[s][i][0], dice.below(states)
+            end = move_to(s + 1 + step % (states - 1 - s)) if s + 1 < states else do(step, 1)
+            sheet.action(s, if_(place, [do(i, EVERY_CHILD)], [do(i + 8, 0)]) + [end])
+    return sheet
+
+
+def nested():
+    """32 states, 256 when clauses, each of which runs an action clause of its own, 1,024 statements, 1,024 guard records, all used; in each
+    state two action clauses have ifs inside one another, eight deep. Where the sixth cell is not chosen, each state moves to the
+    next: 31 moves, in every block that counts."""
+    dice, states = Dice(47), 32
+    sheet = Sheet(class_sets([10, 10]), states)
+    of_class, name = sheet.cells()[5]
+    sixth = (ANY_IN, of_class, 1 << name)
+    for s in range(states):
+        def move(target):
+            return move_to(target) if s + 1 < states else do(s, EVERY_CHILD)
+
+        def deep():
+            inner = if_(sheet.guard(sixth), [move(dice.between(min(s + 1, states - 1), states - 1))], [move(s + 1)])
+            for _ in range(7):
+                inner = if_(sheet.guard(coin(dice, sheet)), *dice.of([(inner, []), ([], inner)]))
+            return inner + [move(s + 1)]
+
+        for i in range(8):
+            tree = coin(dice, sheet) if 3 <= i < 7 else (AND, coin(dice, sheet), coin(dice, sheet))
+            sure = (OR, (ANY_IN, 1, 1 << i), (ANY_NOT_IN, 1, 1 << i))
+            sheet.when(s, sure if i == 7 else tree, DO, i)
+            sheet.action(s, deep() if i in (0, 3) else [do(i, EVERY_CHILD)] * (i < 6) + [move(s + 1)])
+    return sheet
+
+
+def rerun():
+    """One state with 256 when clauses, all of which run its one action clause, of a thousand statements. Which clause is the first true one
+    is told by eight cells, so that a block has 64 first true clauses. The clause's ifs are seldom true: few lanes leave it early."""
+    dice = Dice(61)
+    sheet = Sheet(class_sets([10, 10]), 2)
+    names = [n for n in range(32) if sheet.classes[0] >> n & 1]
+    for k in range(256):
+        lacking = sum(1 << n for i, n in enumerate(names[:8]) if not k >> i & 1)
+        sheet.when(0, (ALL_NOT_IN, 0, lacking or 1 << 31), DO, 0)  # no cell is chosen but those of k; where one of these is not, an earlier clause is true
+    statements = []
+    for i in range(256):
+        names = [n for n in range(32) if sheet.classes[i % 2] >> n & 1]
+        few = sum(1 << n for n in {dice.of(names), dice.of(names), dice.of(names)})
+        statements += if_(sheet.guard((ALL_IN, i % 2, few)), [do(i % 64, EVERY_CHILD), move_to(1)], [do(i % 64, 0)])
+    sheet.action(0, statements)
     return sheet
 
 
@@ -388,6 +491,10 @@ def timed_sheets():
     yield "shared-20", shared(), "256 clauses that share one guard of a thousand records, free"
     yield "last-20", usual_with_a_loop(3, [5] * 4, 2**20 - 1), "a usual class, a loop in the last configuration alone"
     yield "first-20", usual_with_a_loop(4, [4, 16], 0b011010), "a usual class, a loop in the first block"
+    yield "doing-20", doing(5, [5] * 4), "a usual class, half of its moves made by action clauses with ifs eight deep, free"
+    yield "nested-20", nested(), "the most clauses, guard records and statements, every move made by an action clause, free, 31 moves in every block"
+    yield "rerun-20", rerun(), "256 clauses that run one action clause of a thousand statements, free"
+    yield "do-last-20", doing_with_a_loop(6, [8, 7, 5], 2**20 - 1), "a class like doing-20, a loop in the last configuration alone, under an if"
 
 
 # ---- the small sheets
@@ -421,6 +528,42 @@ def small_guards(dice, sheet):
     return [i for i in range(len(ends)) if readable(ends, i)]
 
 
+def reaching(dice, sure, target):
+    """Statements that reach a move_to to the target where the guards at `sure` are true; where one is not, they send at most."""
+    leaf = [[], [do(dice.below(64), EVERY_CHILD)]]
+    statements = [move_to(target)] + dice.of(leaf)
+    for _ in range(dice.of([0, 0, 1, 2, 8])):
+        statements = if_(dice.of(sure), statements, dice.of(leaf))
+    return dice.of(leaf) + statements
+
+
+def step(dice, sheet, s, sure, target, at=0):
+    """Puts a clause into state s at a place, which moves to the target where the guards at `sure` are true: itself, or by an action
+    clause that it runs."""
+    if dice.chance(50):
+        clause = (dice.of(sure), MOVE_TO, target)
+    else:
+        clause = (dice.of(sure), DO, sheet.action(s, reaching(dice, sure, target)))
+    sheet.whens[s].insert(at, clause)
+
+
+def small_clauses(dice, sheet, kind, places):
+    """Action clauses and when clauses of each state. Of a wild sheet they move anywhere, else to later states."""
+    states = len(sheet.whens)
+    for s in range(states):
+        targets = list(range(states)) if kind == "wild" else list(range(s + 1, states))
+        for _ in range(dice.below(3)):
+            sheet.action(s, drawn_statements(dice, places, targets))
+        for _ in range(dice.of([0, 1, 2, 3, 4, 7])):
+            referrer, place = dice.below(100), dice.of(places)
+            if referrer < 12:
+                sheet.when(s, place, STAY)
+            elif referrer < 50 and sheet.actions[s]:
+                sheet.when(s, place, DO, dice.below(len(sheet.actions[s])))
+            elif targets:
+                sheet.when(s, place, MOVE_TO, dice.of(targets))
+
+
 def small(dice, kind, n):
     """A small sheet of a kind, with n names; and what is known of it."""
     states = dice.of([1, 2, 3, 4, 6, 9, 16, 32]) if kind in ("wild", "free") else dice.of([2, 3, 5, 8, 20, 32])
@@ -434,38 +577,25 @@ def small(dice, kind, n):
     only = sheet.guard(exactly(sheet, k))
     if dice.chance(30):
         sheet.guards += records_of((dice.of([AND, OR, NOT]),))  # an operator without operands, which nothing uses
-    said = ""
-    for s in range(states):
-        for _ in range(dice.below(2)):
-            sheet.action(s, [do(dice.below(64), EVERY_CHILD)] * dice.between(0, 2))
-        for _ in range(dice.of([0, 1, 2, 3, 4, 7])):
-            referrer, place = dice.below(100), dice.of(places)
-            if referrer < 12:
-                sheet.when(s, place, STAY)
-            elif referrer < 24 and sheet.actions[s]:
-                sheet.when(s, place, DO, dice.below(len(sheet.actions[s])))
-            elif kind == "wild":
-                sheet.when(s, place, MOVE_TO, dice.below(states))
-            elif s + 1 < states:
-                sheet.when(s, place, MOVE_TO, dice.between(s + 1, states - 1))
-    last = states - 1
+    small_clauses(dice, sheet, kind, places)
+    said, last = "", states - 1
     if kind == "longest":
         for s in range(last):
-            sheet.whens[s].insert(0, (dice.of([only, always]), MOVE_TO, s + 1))
+            step(dice, sheet, s, dice.of([[only], [only, always], [always]]), s + 1)
         said = ", %d moves" % last
     elif kind == "one":
         back = dice.below(states)
         for s in range(back, states):
-            sheet.whens[s].insert(0, (only, MOVE_TO, back if s == last else s + 1))
+            step(dice, sheet, s, [only], back if s == last else s + 1)
         said = ", a loop in configuration %d alone" % k
     elif kind == "tail":
         into = dice.between(states // 2, last)
         for s in range(states):
-            sheet.whens[s].insert(0, (dice.of([only, only, always]), MOVE_TO, dice.of([into, into, last])))
+            step(dice, sheet, s, dice.of([[only], [only], [only, always], [always]]), dice.of([into, into, last]))
         said = ", moves into states of a loop"
     elif kind == "own":
         s = dice.below(states)
-        sheet.whens[s].insert(dice.below(len(sheet.whens[s]) + 1), (dice.of([only] + places), MOVE_TO, s))
+        step(dice, sheet, s, [dice.of([only] + places)], s, dice.below(len(sheet.whens[s]) + 1))
         said = ", a move to the own state"
     return sheet, "states: %d, child classes: %d%s" % (states, len(sheet.classes), said)
 

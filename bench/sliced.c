@@ -12,9 +12,12 @@
 #include <stdlib.h>
 
 enum { MOST_CELLS = 20, MOST_CLASSES = 8, MOST_STATES = 32, MOST_WHENS = 256, MOST_GUARDS = 1024, MOST_BYTES = 18616 };
-enum { CLASSES, STATES, WHENS, GUARDS, BODIES = 6 };              /* in contents order; the last two are not needed */
-enum { ANY_IN, ANY_NOT_IN, ALL_IN, ALL_NOT_IN, AND, OR, NOT };    /* kinds of guard records */
-enum { MOVE_TO = 0, EVERY_CHILD = 255 };
+enum { MOST_ACTIONS = 256, MOST_STATEMENTS = 1024 };
+enum { CLASSES, STATES, WHENS, GUARDS, ACTIONS, STATEMENTS, BODIES };    /* in contents order */
+enum { ANY_IN, ANY_NOT_IN, ALL_IN, ALL_NOT_IN, AND, OR, NOT };           /* kinds of guard records */
+enum { SEND, GO, IF };                                                   /* kinds of statements: do, move_to, if */
+enum { MOVE_TO, DO, STAY };                                              /* referrers */
+enum { EVERY_CHILD = 255 };
 
 #define NONE UINT64_C(0)
 #define EVERY (~NONE)
@@ -26,8 +29,12 @@ struct cell { uint8_t of_class, name; };
  * ALL: the ANY of the opposite fact), and the lanes of block 0 in which one of them is chosen. */
 struct step { uint8_t kind; uint16_t at, right; uint32_t mask; uint64_t low; };
 
-/* A when clause that moves to an own state. */
-struct move { uint16_t clause; uint8_t to; };
+/* A when clause: its guard's place, its referrer, and which move it makes or which action clause it runs. */
+struct when { uint16_t guard; uint8_t referrer; uint16_t target; };
+
+/* A statement of an action clause that some when clause runs: a move_to has the move that it makes, an if its guard's place and where its
+ * else-part begins and ends. */
+struct statement { uint8_t kind; uint16_t move, guard, else_part, end; };
 
 static uint8_t sheet[MOST_BYTES + 1];
 static struct { unsigned start, count; } body[BODIES];
@@ -37,18 +44,24 @@ static uint32_t class_mask[MOST_CLASSES];         /* the cells of each class, an
 static uint64_t class_low[MOST_CLASSES];
 static struct step steps[MOST_GUARDS];            /* the guard records that are used, the last one first */
 static unsigned step_count;
-static uint16_t guard_of[MOST_WHENS];
-static unsigned first_clause[MOST_STATES + 1];    /* state s has the clauses from first_clause[s] to before first_clause[s + 1] */
-static struct move moves[MOST_WHENS];
-static unsigned first_move[MOST_STATES + 1];
+static struct when whens[MOST_WHENS];
+static struct statement statements[MOST_STATEMENTS];
+static uint8_t is_run[MOST_ACTIONS];              /* whether some when clause runs the action clause */
+static uint8_t begins[MOST_GUARDS];               /* whether a guard that matters begins at the record */
+static unsigned first_when[MOST_STATES + 1];      /* state s has the clauses from first_when[s] to before first_when[s + 1] */
+static unsigned first_action[MOST_STATES + 1];
+static unsigned first_statement[MOST_ACTIONS + 1];
+static unsigned first_move[MOST_STATES + 1];      /* the moves that a state can make are listed once each, by the state they lead to */
+static uint8_t leads_to[MOST_STATES * MOST_STATES];
 static uint64_t value[MOST_GUARDS];               /* where the guard at each record is true, in the present block */
-static uint64_t hit[MOST_WHENS];                  /* where each clause is the first true one of its state */
+static uint64_t made[MOST_STATES * MOST_STATES];  /* where each move is made */
+static uint64_t runs[MOST_ACTIONS];               /* where each action clause is run */
 
 static unsigned u16(const uint8_t *p) { return p[0] | (unsigned)p[1] << 8; }
 static uint32_t u32(const uint8_t *p) { return u16(p) | (uint32_t)u16(p + 2) << 16; }
 
 /* The bytes of a record. */
-static const uint8_t *record(int b, unsigned i) { return sheet + body[b].start + i * (b == GUARDS ? 8 : 4); }
+static const uint8_t *record(int b, unsigned i) { return sheet + body[b].start + i * (b == GUARDS || b == STATEMENTS ? 8 : 4); }
 
 /* Says what is wrong and ends the program. */
 static void fail(const char *what)
@@ -60,7 +73,7 @@ static void fail(const char *what)
 /* Reads the sheet and where its bodies are. */
 static void read_sheet(void)
 {
-    static const unsigned bytes[BODIES] = {4, 4, 4, 8, 4, 8}, most[BODIES] = {MOST_CLASSES, MOST_STATES, MOST_WHENS, MOST_GUARDS, 256, 1024};
+    static const unsigned bytes[BODIES] = {4, 4, 4, 8, 4, 8}, most[BODIES] = {MOST_CLASSES, MOST_STATES, MOST_WHENS, MOST_GUARDS, MOST_ACTIONS, MOST_STATEMENTS};
     size_t size = fread(sheet, 1, sizeof sheet, stdin);
     if (size < 24 || size > MOST_BYTES) fail("standard input has under 24 or over 18616 bytes, so it is no class sheet");
     for (int b = 0; b < BODIES; b++) {
@@ -111,18 +124,59 @@ static void plan_classes(void)
     }
 }
 
-/* Makes the when clauses ready, and lists those that move. */
+/* Sums the counts in the records of a body: where the clauses of each state, or the statements of each clause, begin. */
+static void find_firsts(int b, int at, unsigned *first)
+{
+    for (unsigned i = 0; i < body[b].count; i++) first[i + 1] = first[i] + u16(record(b, i) + at);
+}
+
+/* The move from a state to another, listed where it is new. */
+static uint16_t move_of(unsigned s, uint8_t to)
+{
+    unsigned m = first_move[s];
+    while (m < first_move[s + 1] && leads_to[m] != to) m++;
+    if (m == first_move[s + 1]) leads_to[first_move[s + 1]++] = to;
+    return (uint16_t)m;
+}
+
+/* Makes the when clauses of a state ready. */
+static void plan_whens(unsigned s)
+{
+    for (unsigned c = first_when[s]; c < first_when[s + 1]; c++) {
+        const uint8_t *r = record(WHENS, c);
+        unsigned action = first_action[s] + r[3];
+        whens[c] = (struct when){(uint16_t)u16(r), r[2], r[2] == MOVE_TO ? move_of(s, r[3]) : (uint16_t)action};
+        begins[u16(r)] = 1;
+        if (r[2] == DO) is_run[action] = 1;
+    }
+}
+
+/* Makes the statements of an action clause of a state ready. */
+static void plan_statements(unsigned s, unsigned action)
+{
+    for (unsigned i = first_statement[action]; i < first_statement[action + 1]; i++) {
+        const uint8_t *r = record(STATEMENTS, i);
+        unsigned else_part = i + 1 + u16(r + 4);
+        statements[i].kind = r[0];
+        if (r[0] == GO) statements[i].move = move_of(s, r[1]);
+        if (r[0] == IF) {
+            statements[i] = (struct statement){IF, 0, (uint16_t)u16(r + 2), (uint16_t)else_part, (uint16_t)(else_part + u16(r + 6))};
+            begins[u16(r + 2)] = 1;
+        }
+    }
+}
+
+/* Makes the clauses ready, and lists the moves that they can make. */
 static void plan_clauses(void)
 {
-    unsigned c = 0, m = 0;
+    find_firsts(STATES, 0, first_when);
+    find_firsts(STATES, 2, first_action);
+    find_firsts(ACTIONS, 2, first_statement);
     for (unsigned s = 0; s < body[STATES].count; s++) {
-        for (unsigned behind = c + u16(record(STATES, s)); c < behind && c < body[WHENS].count; c++) {
-            const uint8_t *clause = record(WHENS, c);
-            guard_of[c] = (uint16_t)u16(clause);
-            if (clause[2] == MOVE_TO) moves[m++] = (struct move){(uint16_t)c, clause[3]};
-        }
-        first_clause[s + 1] = c;
-        first_move[s + 1] = m;
+        first_move[s + 1] = first_move[s];
+        plan_whens(s);
+        for (unsigned a = first_action[s]; a < first_action[s + 1]; a++)
+            if (is_run[a]) plan_statements(s, a);
     }
 }
 
@@ -134,13 +188,13 @@ static void plan_step(unsigned at, unsigned right)
     steps[step_count++] = (struct step){r[0], (uint16_t)at, (uint16_t)right, mask, low_of(mask)};
 }
 
-/* Makes the guard records ready that some clause uses, the last one first. A guard has all records up to its end. */
+/* Makes the guard records ready that matter: those of when clauses, and of ifs that one of these can run. The last one comes first; a guard
+ * has all records up to its end. */
 static void plan_guards(void)
 {
     static uint16_t end[MOST_GUARDS + 1];
-    static uint8_t begins[MOST_GUARDS], used[MOST_GUARDS];
+    static uint8_t used[MOST_GUARDS];
     unsigned count = body[GUARDS].count, until = 0;
-    for (unsigned c = 0; c < body[WHENS].count; c++) begins[guard_of[c]] = 1;
     end[count] = (uint16_t)count;
     for (unsigned i = count; i-- > 0;) {
         unsigned kind = *record(GUARDS, i);
@@ -180,16 +234,39 @@ static void read_guards(uint32_t base)
     }
 }
 
-/* Finds where each clause is the first true one of its state: what remains is narrowed by each hit. */
-static void find_hits(uint64_t lanes)
+/* Runs statements on a set of lanes: an if splits it by its guard, a move_to takes what is left of it. The lanes that reach no move_to. */
+static uint64_t run(unsigned at, unsigned behind, uint64_t lanes)
 {
-    for (unsigned s = 0; s < body[STATES].count; s++) {
-        uint64_t left = lanes;
-        for (unsigned c = first_clause[s]; c < first_clause[s + 1]; c++) {
-            hit[c] = left & value[guard_of[c]];
-            left &= ~hit[c];
+    while (at < behind && lanes) {
+        const struct statement *t = &statements[at++];
+        if (t->kind == GO) {
+            made[t->move] |= lanes;
+            return NONE;
+        }
+        if (t->kind == IF) {
+            uint64_t then_part = run(at, t->else_part, lanes & value[t->guard]);
+            lanes = then_part | run(t->else_part, t->end, lanes & ~value[t->guard]);
+            at = t->end;
         }
     }
+    return lanes;
+}
+
+/* Finds where each move of a state is made. Each when clause is the first true one in what remains of the lanes; then each action clause is
+ * run once, on all lanes of the when clauses that run it. */
+static void find_moves(unsigned s, uint64_t left)
+{
+    for (unsigned m = first_move[s]; m < first_move[s + 1]; m++) made[m] = NONE;
+    for (unsigned a = first_action[s]; a < first_action[s + 1]; a++) runs[a] = NONE;
+    for (unsigned c = first_when[s]; c < first_when[s + 1]; c++) {
+        const struct when *w = &whens[c];
+        uint64_t hit = left & value[w->guard];
+        left &= ~hit;
+        if (w->referrer == MOVE_TO) made[w->target] |= hit;
+        if (w->referrer == DO) runs[w->target] |= hit;
+    }
+    for (unsigned a = first_action[s]; a < first_action[s + 1]; a++)
+        if (runs[a]) run(first_statement[a], first_statement[a + 1], runs[a]);
 }
 
 /* One round: from where n moves can be made, in each state, to where n + 1 can. The lanes in which some state can. */
@@ -198,7 +275,7 @@ static uint64_t one_round(const uint64_t *can, uint64_t *next)
     uint64_t some = NONE;
     for (unsigned s = 0; s < body[STATES].count; s++) {
         uint64_t word = NONE;
-        for (unsigned m = first_move[s]; m < first_move[s + 1]; m++) word |= hit[moves[m].clause] & can[moves[m].to];
+        for (unsigned m = first_move[s]; m < first_move[s + 1]; m++) word |= made[m] & can[leads_to[m]];
         next[s] = word;
         some |= word;
     }
@@ -240,7 +317,7 @@ static void tell_loop(uint32_t base, uint64_t lanes)
     for (unsigned s = 0; s < body[STATES].count; s++) {
         next[s] = -1;
         for (unsigned m = first_move[s]; m < first_move[s + 1]; m++)
-            if (hit[moves[m].clause] >> lane & 1) next[s] = moves[m].to;
+            if (made[m] >> lane & 1) next[s] = leads_to[m];
     }
     while (!returns(q, next)) q++;
     printf("loop %lu %d", (unsigned long)(base + lane), q);
@@ -265,7 +342,7 @@ int main(void)
         uint64_t lanes = counting(base);
         if (!lanes) continue;
         read_guards(base);
-        find_hits(lanes);
+        for (unsigned s = 0; s < body[STATES].count; s++) find_moves(s, lanes);
         lanes = looping(lanes, &longest);
         if (lanes) {
             tell_loop(base, lanes);
