@@ -3,11 +3,11 @@
 
 Run it at the repository's root: python3 tests/make_cases.py. It needs the standard library alone, and writes the same files every time.
 
-Each case is a question line with the answer line that document 01 ("the paper") asks for, or request 1 of document 02 with the forms of
-docs/TEXT.md where a class text is read. The answers are written here by hand, from those; none is taken from the program. Sheets are put
-together by the small functions below, which only lay out bytes; they know no rule of the paper but its layouts. Three cases search all
-of 2 to the 20th configurations, which takes compiled code seconds; `rt try` runs out of its own limits there, and says so, on the
-interpreter and where it checks the compiler's assumptions.
+Each case is a question line with the answer line that document 01 ("the paper") asks for, with request 2 of document 02 where a DO is run,
+or request 1 of it with the forms of docs/TEXT.md where a class text is read. The answers are written here by hand, from those; none is
+taken from the program. Sheets are put together by the small functions below, which only lay out bytes; they know no rule of the paper
+but its layouts. Five cases search all of 2 to the 20th configurations, which takes compiled code seconds; `rt try` runs out of its own
+limits there, and says so, on the interpreter and where it checks the compiler's assumptions.
 """
 import os
 
@@ -124,8 +124,8 @@ def probe(s, children, q):
     return "probe %s %s %d" % (hexed(s), hexed(pairs(children)), q)
 
 
-def phase(s, children, q):
-    return "phase %s %s %d" % (hexed(s), hexed(pairs(children)), q)
+def phase(s, children, q, buffer):
+    return "phase %s %s %d %s" % (hexed(s), hexed(pairs(children)), q, hexed(buffer))
 
 
 def command(s, children, q, m, buffer):
@@ -166,16 +166,16 @@ case(loop(A, 0, b""), "free 0 -")
 case(loop(B, 0, b""), "free 1 -")
 case(loop(A, 0, SIX), "free 0 a1a2a3a4a5a6")
 # 4 and 5
-case(phase(A, [HOT], 1), "none 0 1")
-case(phase(A, [COLD, HOT], 0), "loop 0 2")
-case(phase(A, [COLD, HOT], 1), "loop 1 2")
+case(phase(A, [HOT], 1, SIX), "none 0 1 0 - a1a2a3a4a5a6")
+case(phase(A, [COLD, HOT], 0, b""), "loop 0 2 0 - -")
+case(phase(A, [COLD, HOT], 1, SIX), "loop 1 2 0 - a1a2a3a4a5a6")
 case(probe(A, [COLD, HOT], 0), "clause 0 0 1")
 case(probe(A, [COLD, HOT], 1), "clause 0 0 0")
 case(probe(A, [HOT], 0), "none")
-case(phase(A, [HOT], 0), "none 0 0")
-case(phase(A, [FAULT], 0), "none 1 1")
-case(phase(A, [], 0), "none 0 0")
-case(phase(B, [], 1), "none 0 1")
+case(phase(A, [HOT], 0, b""), "none 0 0 0 - -")
+case(phase(A, [FAULT], 0, SIX), "none 1 1 0 - a1a2a3a4a5a6")
+case(phase(A, [], 0, b""), "none 0 0 0 - -")
+case(phase(B, [], 1, SIX), "none 0 1 0 - a1a2a3a4a5a6")
 # 6 and 7
 case(command(C, [HOT], 0, 9, SIX), "handled 1 3 000004a4a5a6")
 case(command(C, [COLD], 0, 9, SIX), "handled 0 6 000004000005")
@@ -199,10 +199,10 @@ refused(6, patched(A, 36, 2))
 refused(7, patched(A, 39, 2))
 # 10
 case(probe(A, [(0, 3)], 0), "refused 10")
-case(phase(A, [(0, 3)], 0), "refused 10")
+case(phase(A, [(0, 3)], 0, b""), "refused 10 -")
 case(command(A, [(0, 3)], 0, 0, SIX), "refused 10 a1a2a3a4a5a6")
 case(probe(A, [HOT], 2), "refused 11")
-case(phase(A, [HOT], 2), "refused 11")
+case(phase(A, [HOT], 2, SIX), "refused 11 a1a2a3a4a5a6")
 case(command(A, [HOT], 2, 0, SIX), "refused 11 a1a2a3a4a5a6")
 case(command(A, [HOT], 0, 64, SIX), "refused 12 a1a2a3a4a5a6")
 
@@ -527,11 +527,11 @@ refused(1, faulty(F3, F4, F5, F6, F7, F8, F9)[:20])
 refused(2, patched(faulty(F3, F5), 0, 0))
 # a sheet is refused before the question is looked at
 case(probe(faulty(F9), [(9, 9)], 255), "refused 9")
-case(phase(faulty(F6), [(9, 9)], 255), "refused 6")
+case(phase(faulty(F6), [(9, 9)], 255, b""), "refused 6 -")
 case(command(faulty(F8), [(9, 9)], 255, 255, SIX), "refused 8 a1a2a3a4a5a6")
 case(loop(faulty(F3), 255, SIX), "refused 3 a1a2a3a4a5a6")
 case(probe(b"", [], 0), "refused 1")
-case(phase(b"", [], 0), "refused 1")
+case(phase(b"", [], 0, SIX), "refused 1 a1a2a3a4a5a6")
 case(command(b"", [], 0, 0, b""), "refused 1 -")
 case(loop(b"", 0, b""), "refused 1 -")
 case(loop(A[:59], 1, SIX), "refused 2 a1a2a3a4a5a6")
@@ -565,16 +565,16 @@ case(probe(LISTS, [(0, 0), (0, 0), (2, 0)], 0), "refused 10")
 case(probe(LISTS, [(2, 0), (0, 0), (0, 0)], 0), "refused 10")
 case("probe %s 00 0" % LISTS.hex(), "refused 10")               # odd
 case("probe %s 000000 0" % LISTS.hex(), "refused 10")
-case("phase %s 000000 0" % LISTS.hex(), "refused 10")
+case("phase %s 000000 0 a1" % LISTS.hex(), "refused 10 a1")
 case("command %s 000000 0 63 a1" % LISTS.hex(), "refused 10 a1")
 case(probe(SMALLEST, [], 0), "none")
 case(probe(SMALLEST, [(0, 0)], 0), "refused 10")                # K of 0
 MANY = [(0, 0), (0, 31), (1, 1), (0, 0)] * 1024
 case(probe(LISTS, MANY, 0), "none")                             # 4,096 children
-case(phase(LISTS, MANY + [(0, 0)], 0), "refused 10")            # 4,097
+case(phase(LISTS, MANY + [(0, 0)], 0, b""), "refused 10 -")     # 4,097
 case(probe(LISTS, [], 2), "refused 11")
 case(probe(LISTS, [], 255), "refused 11")
-case(phase(LISTS, [], 2), "refused 11")
+case(phase(LISTS, [], 2, SIX), "refused 11 a1a2a3a4a5a6")
 case(command(LISTS, [], 2, 0, b""), "refused 11 -")
 case(command(LISTS, [(0, 31)], 0, 63, SIX), "handled 0 3 000001a4a5a6")
 case(command(LISTS, [(0, 31)], 1, 63, SIX), "ignored 1 0 a1a2a3a4a5a6")
@@ -641,48 +641,48 @@ case(probe(ORDER, [(0, 1), (0, 2)], 1), "clause 0 1 0")
 LAST = sheet([klass(0, 1)], [X, Y], [([when(0, MOVE_TO, 0)] * 255 + [when(1, STAY)], [])])
 case(probe(LAST, [(0, 1)], 0), "clause 255 2 0")
 case(probe(LAST, [(0, 1), (0, 0)], 0), "clause 0 0 0")
-case(phase(LAST, [(0, 1)], 0), "stay 0 0")
+case(phase(LAST, [(0, 1)], 0, b""), "stay 0 0 0 - -")
 
 # --------------------------------------------------------------------------------------------------------------------------- the when phase
 
 # DO names the command of its action clause, which is the state's own: clause 2 of state 1 is the fifth of the sheet
-case(phase(ORDER, [(0, 0)], 0), "do 0 0 8")
-case(phase(ORDER, [(0, 1)], 0), "do 1 1 63")
-case(phase(ORDER, [(0, 1), (0, 2)], 0), "do 1 1 9")
-case(phase(ORDER, [(0, 2)], 0), "stay 0 0")
-case(phase(ORDER, [(0, 1)], 1), "do 1 0 63")
-case(phase(ORDER, [(0, 0)], 1), "none 1 0")
+case(phase(ORDER, [(0, 0)], 0, SIX), "do 0 0 0 8 a1a2a3a4a5a6")
+case(phase(ORDER, [(0, 1)], 0, b""), "do 1 1 0 63 -")
+case(phase(ORDER, [(0, 1), (0, 2)], 0, SIX), "do 1 1 0 9 a1a2a3a4a5a6")
+case(phase(ORDER, [(0, 2)], 0, b""), "stay 0 0 0 - -")
+case(phase(ORDER, [(0, 1)], 1, SIX), "do 1 0 0 63 a1a2a3a4a5a6")
+case(phase(ORDER, [(0, 0)], 1, b""), "none 1 0 0 - -")
 # a move to the own state is a move
 ALWAYS = atom(ALL_IN, EVERYONE, 0)   # true of the empty list
 OWN = sheet([], [ALWAYS], [([when(0, MOVE_TO, 0)], [])])
-case(phase(OWN, [], 0), "loop 0 1")
+case(phase(OWN, [], 0, SIX), "loop 0 1 0 - a1a2a3a4a5a6")
 case(probe(OWN, [], 0), "clause 0 0 0")
 OWN_THREE = sheet([], [ALWAYS], [([when(0, MOVE_TO, 1)], []), ([when(0, MOVE_TO, 1)], []), ([], [])])
-case(phase(OWN_THREE, [], 0), "loop 1 3")
-case(phase(OWN_THREE, [], 1), "loop 1 3")
-case(phase(OWN_THREE, [], 2), "none 2 0")
+case(phase(OWN_THREE, [], 0, b""), "loop 1 3 0 - -")
+case(phase(OWN_THREE, [], 1, SIX), "loop 1 3 0 - a1a2a3a4a5a6")
+case(phase(OWN_THREE, [], 2, b""), "none 2 0 0 - -")
 # a ring of 32, a ring of 31 with a way into it, a chain of 31 moves
 RING = sheet([], [ALWAYS], [([when(0, MOVE_TO, (q + 1) % 32)], []) for q in range(32)])
-case(phase(RING, [], 0), "loop 0 32")
-case(phase(RING, [], 5), "loop 5 32")
-case(phase(RING, [], 31), "loop 31 32")
-case(phase(RING, [], 32), "refused 11")
+case(phase(RING, [], 0, SIX), "loop 0 32 0 - a1a2a3a4a5a6")
+case(phase(RING, [], 5, b""), "loop 5 32 0 - -")
+case(phase(RING, [], 31, SIX), "loop 31 32 0 - a1a2a3a4a5a6")
+case(phase(RING, [], 32, b""), "refused 11 -")
 INTO = sheet([], [ALWAYS], [([when(0, MOVE_TO, q + 1 if q < 31 else 1)], []) for q in range(32)])
-case(phase(INTO, [], 0), "loop 1 32")      # one move to 1, then 31 round the ring
-case(phase(INTO, [], 1), "loop 2 32")      # 31 moves round the ring, and one
+case(phase(INTO, [], 0, SIX), "loop 1 32 0 - a1a2a3a4a5a6")   # one move to 1, then 31 round the ring
+case(phase(INTO, [], 1, b""), "loop 2 32 0 - -")               # 31 moves round the ring, and one
 CHAIN = sheet([], [ALWAYS], [([when(0, MOVE_TO, q + 1)], []) for q in range(31)] + [([], [])])
-case(phase(CHAIN, [], 0), "none 31 31")
-case(phase(CHAIN, [], 30), "none 31 1")
-case(phase(CHAIN, [], 31), "none 31 0")
+case(phase(CHAIN, [], 0, SIX), "none 31 31 0 - a1a2a3a4a5a6")
+case(phase(CHAIN, [], 30, b""), "none 31 1 0 - -")
+case(phase(CHAIN, [], 31, SIX), "none 31 0 0 - a1a2a3a4a5a6")
 CHAIN_STAY = sheet([], [ALWAYS], [([when(0, MOVE_TO, q + 1)], []) for q in range(31)] + [([when(0, STAY)], [])])
-case(phase(CHAIN_STAY, [], 0), "stay 31 31")
+case(phase(CHAIN_STAY, [], 0, b""), "stay 31 31 0 - -")
 CHAIN_DO = sheet([], [ALWAYS], [([when(0, MOVE_TO, q + 1)], []) for q in range(31)] + [([when(0, DO, 1)], [(3, []), (2, [])])])
-case(phase(CHAIN_DO, [], 0), "do 31 31 2")
+case(phase(CHAIN_DO, [], 0, SIX), "do 31 31 0 2 a1a2a3a4a5a6")
 # backwards
 DOWN = sheet([], [ALWAYS], [([], [])] + [([when(0, MOVE_TO, q - 1)], []) for q in range(1, 32)])
-case(phase(DOWN, [], 31), "none 0 31")
+case(phase(DOWN, [], 31, b""), "none 0 31 0 - -")
 # S of 1
-case(phase(SMALLEST, [], 0), "none 0 0")
+case(phase(SMALLEST, [], 0, SIX), "none 0 0 0 - a1a2a3a4a5a6")
 
 # --------------------------------------------------------------------------------------------------------------------------- commands
 
@@ -794,6 +794,224 @@ case(command(sheet([klass(0)], [], [([], [(0, send(7) * 1024)])]), [(0, 0)], 0, 
 case(command(sheet([klass(0)], [], [([], [(0, send(7) * 1024)])]), [(0, 0)], 0, 0, b"\xee" * 3071), "refused 15 " + "ee" * 3071)
 # a state's own clauses and the longest sheet: state 31, command 56 is its eighth clause; guard 1,007 is ALL not in {15} of class 7
 case(command(LONGEST, [(7, 7), (0, 0)], 31, 56, KEPT), "handled 31 3 00003f" + KEPT[3:].hex())
+
+# --------------------------------------------------------------------------------------------------------------------------- DOs in the when phase
+
+# class 0 has names 0 to 7, class 1 has name 0; guard n: some child of class 0 has name n; guard 8 is always true
+SURE = 8
+
+
+def node(*states):
+    """A sheet of these states, with those classes and guards."""
+    return sheet([klass(*range(8)), klass(0)], WISHES + [atom(ALL_IN, EVERYONE, *range(32))], states)
+
+
+# a DO whose clause reaches a move_to makes one move, and the node probes on: here it ends by no clause, by STAY, by a DO, whose command is
+# named and which has run, too. What the DOs sent stands in the buffer
+SETTLING = node(
+    ([when(0, DO, 0), when(1, DO, 1), when(2, DO, 2)], [(10, send(20) + go(1)), (11, send(21) + go(2)), (12, send(22) + go(3))]),
+    ([], []),
+    ([when(SURE, STAY)], []),
+    ([when(SURE, DO, 1)], [(30, send(40)), (31, send(41))]))
+accepted(SETTLING)
+case(phase(SETTLING, [(0, 0)], 0, SIX), "none 1 1 3 - 000014a4a5a6")
+case(phase(SETTLING, [(0, 1)], 0, SIX), "stay 2 1 3 - 000015a4a5a6")
+case(phase(SETTLING, [(0, 2)], 0, SIX), "do 3 1 6 31 000016000029")
+case(phase(SETTLING, [(0, 2), (0, 0)], 0, SIX), "none 1 1 6 - 000014010014")   # the first true clause alone runs
+case(phase(SETTLING, [(0, 3)], 0, SIX), "none 0 0 0 - a1a2a3a4a5a6")
+case(phase(SETTLING, [(0, 2)], 1, SIX), "none 1 0 0 - a1a2a3a4a5a6")
+case(phase(SETTLING, [(0, 2)], 2, SIX), "stay 2 0 0 - a1a2a3a4a5a6")
+case(phase(SETTLING, [(0, 2)], 3, SIX), "do 3 0 3 31 000029a4a5a6")
+# the probe names the DO and runs nothing; the command runs its clause and no when phase
+case(probe(SETTLING, [(0, 2)], 0), "clause 2 1 2")
+case(probe(SETTLING, [(0, 2)], 3), "clause 0 1 1")
+case(command(SETTLING, [(0, 2)], 0, 12, SIX), "handled 3 3 000016a4a5a6")
+case(command(SETTLING, [(0, 2)], 3, 30, SIX), "handled 3 3 000028a4a5a6")
+# the room is that of the whole phase: exactly that is enough, one byte less is refused, and nothing is written, not even what would fit
+case(phase(SETTLING, [(0, 2)], 0, SIX[:5]), "refused 15 a1a2a3a4a5")
+case(phase(SETTLING, [(0, 2)], 0, SIX[:3]), "refused 15 a1a2a3")
+case(phase(SETTLING, [(0, 2)], 0, b""), "refused 15 -")
+case(phase(SETTLING, [(0, 0)], 0, SIX[:3]), "none 1 1 3 - 000014")
+case(phase(SETTLING, [(0, 0)], 0, SIX[:2]), "refused 15 a1a2")
+case(phase(SETTLING, [(0, 1)], 0, SIX[:3]), "stay 2 1 3 - 000015")
+case(phase(SETTLING, [(0, 1)], 0, SIX[:2]), "refused 15 a1a2")
+case(phase(SETTLING, [(0, 2)], 3, SIX[:3]), "do 3 0 3 31 000029")
+case(phase(SETTLING, [(0, 2)], 3, SIX[:2]), "refused 15 a1a2")
+case(phase(SETTLING, [(0, 2)], 3, b""), "refused 15 -")
+# where nothing is sent, no room is needed
+case(phase(SETTLING, [], 3, b""), "do 3 0 0 31 -")
+case(phase(SETTLING, [], 3, SIX), "do 3 0 0 31 a1a2a3a4a5a6")
+case(phase(SETTLING, [(0, 3)], 0, b""), "none 0 0 0 - -")
+# 15 comes last, behind 10 and 11
+case(phase(SETTLING, [(0, 8)], 4, b""), "refused 10 -")
+case(phase(SETTLING, [(0, 2), (2, 0)], 0, SIX[:1]), "refused 10 a1")
+case(phase(SETTLING, [(0, 2)], 4, b""), "refused 11 -")
+case(phase(SETTLING, [(0, 2)], 255, SIX[:5]), "refused 11 a1a2a3a4a5")
+case(phase(patched(SETTLING, 0, 25), [(0, 2)], 0, b""), "refused 2 -")
+
+# a DO whose clause moves to the own state makes a move: its guard is still true, so it ends as a loop, whatever it sends
+OWN_DO = node(([when(SURE, DO, 0)], [(5, send(1) + go(0))]))
+case(phase(OWN_DO, [], 0, b""), "loop 0 1 0 - -")
+case(phase(OWN_DO, [(1, 0)], 0, b""), "loop 0 1 0 - -")
+case(phase(OWN_DO, [(1, 0)], 0, SIX), "loop 0 1 0 - a1a2a3a4a5a6")
+case(phase(OWN_DO, [(1, 0)], 0, SIX[:2]), "loop 0 1 0 - a1a2")
+case(phase(OWN_DO, [(1, 0)], 1, b""), "refused 11 -")
+case(command(OWN_DO, [(1, 0)], 0, 5, SIX), "handled 0 3 000001a4a5a6")
+RETRY = node(([when(SURE, MOVE_TO, 1)], []), ([when(1, STAY), when(SURE, DO, 0)], [(5, send(1) + branch(0, go(1), send(2)))]), ([], []))
+case(phase(RETRY, [(0, 0)], 0, SIX), "loop 1 3 0 - a1a2a3a4a5a6")
+case(phase(RETRY, [(0, 0)], 1, b""), "loop 1 3 0 - -")
+case(phase(RETRY, [(0, 2)], 0, SIX), "do 1 1 6 5 000001000002")            # the if is false: no move_to is reached
+case(phase(RETRY, [(0, 2)], 1, SIX[:5]), "refused 15 a1a2a3a4a5")
+case(phase(RETRY, [(0, 0), (0, 1)], 1, b""), "stay 1 0 0 - -")             # an earlier clause is true
+
+# a DO whose clause is empty, or ends without a move_to, ends the phase, and the clauses behind it are not tried
+EMPTY_DO = node(([when(0, DO, 0), when(SURE, MOVE_TO, 1)], [(63, [])]), ([when(1, DO, 0)], [(0, branch(2, go(0)))]))
+case(phase(EMPTY_DO, [(0, 0)], 0, SIX), "do 0 0 0 63 a1a2a3a4a5a6")
+case(phase(EMPTY_DO, [(0, 0)], 0, b""), "do 0 0 0 63 -")
+case(phase(EMPTY_DO, [(0, 1)], 0, SIX), "do 1 1 0 0 a1a2a3a4a5a6")
+case(phase(EMPTY_DO, [(0, 2)], 0, b""), "none 1 1 0 - -")
+case(phase(EMPTY_DO, [(0, 1), (0, 2)], 1, b""), "loop 1 2 0 - -")          # 1, 0, 1 in two moves
+case(phase(EMPTY_DO, [(0, 1), (0, 2)], 0, SIX), "loop 0 2 0 - a1a2a3a4a5a6")
+case(phase(EMPTY_DO, [(0, 0), (0, 1), (0, 2)], 1, b""), "do 0 1 0 63 -")
+
+# what is sent stands in the order in which it was run, each do in list order with places of the asked list: 1, 2, 3, 4. What stands behind
+# the move_to that is reached, 9, is not run
+IN_ORDER = node(
+    ([when(SURE, DO, 0)], [(7, send(1, 0) + send(2, 1) + go(1) + send(9))]),
+    ([when(SURE, MOVE_TO, 2)], []),
+    ([when(SURE, DO, 1)], [(7, send(9)), (8, send(3) + branch(4, go(3) + send(9), send(9)) + send(9))]),
+    ([when(4, DO, 0)], [(6, send(4, 1))]))
+case(phase(IN_ORDER, THREE, 0, KEPT), "do 3 3 24 6 010001" "000002" "020002" "000003" "010003" "020003" "000004" "020004")
+case(phase(IN_ORDER, THREE, 0, KEPT[:23]), "refused 15 " + KEPT[:23].hex())
+case(phase(IN_ORDER, THREE, 1, KEPT), "do 3 2 15 6 000003" "010003" "020003" "000004" "020004" + KEPT[15:].hex())
+case(phase(IN_ORDER, THREE, 1, KEPT[:15]), "do 3 2 15 6 000003010003020003000004020004")
+case(phase(IN_ORDER, THREE, 1, KEPT[:14]), "refused 15 " + KEPT[:14].hex())
+case(phase(IN_ORDER, [(1, 0), (0, 5)], 0, KEPT), "do 2 2 24 8 010001" "000002" "000003" "010003" "000009" "010009" "000009" "010009")   # no name 4
+# the children do not change meanwhile: the if and the next probe find what the first guard found
+STILL = node(([when(0, DO, 0)], [(1, send(2) + branch(0, send(3) + go(1), go(2)))]), ([when(0, DO, 0), when(SURE, STAY)], [(1, send(4))]), ([], []))
+case(phase(STILL, [(0, 0)], 0, KEPT[:12]), "do 1 1 9 1 000002" "000003" "000004" "c9cacb")
+# a DO names a clause of its own state, the last of 64 too
+OWN_CLAUSES = node(([when(0, DO, 1)], [(1, go(0)), (2, go(1))]), ([when(0, DO, 2)], [(9, go(0)), (8, go(1)), (7, send(5))]))
+case(phase(OWN_CLAUSES, [(0, 0)], 0, SIX), "do 1 1 3 7 000005a4a5a6")
+LAST_CLAUSE = node(
+    ([when(SURE, DO, 63)], [(63 - m, go(0)) for m in range(63)] + [(0, go(1))]),
+    ([when(SURE, DO, 62)], [(m, go(0)) for m in range(62)] + [(62, send(62))]))
+case(phase(LAST_CLAUSE, [(1, 0)], 0, SIX), "do 1 1 3 62 00003ea4a5a6")
+# the last of 256 when clauses
+LAST_DO = node(([when(0, MOVE_TO, 0)] * 255 + [when(1, DO, 0)], [(4, send(6) + go(1))]), ([], []))
+case(phase(LAST_DO, [(0, 1)], 0, SIX), "none 1 1 3 - 000006a4a5a6")
+case(phase(LAST_DO, [(0, 1), (0, 0)], 0, SIX), "loop 0 2 0 - a1a2a3a4a5a6")
+# several when clauses run the same clause, whose if asks the children, not which of them it was
+SAME = node(([when(0, DO, 0), when(1, DO, 0), when(2, DO, 1), when(3, DO, 0)], [(7, send(1) + branch(1, go(1))), (8, go(1))]), ([], []))
+case(phase(SAME, [(0, 0)], 0, SIX), "do 0 0 3 7 000001a4a5a6")
+case(phase(SAME, [(0, 1)], 0, SIX), "none 1 1 3 - 000001a4a5a6")
+case(phase(SAME, [(0, 2)], 0, SIX), "none 1 1 0 - a1a2a3a4a5a6")
+case(phase(SAME, [(0, 3)], 0, SIX), "do 0 0 3 7 000001a4a5a6")
+case(phase(SAME, [(0, 0), (0, 1)], 0, SIX), "none 1 1 6 - 000001010001")
+case(phase(SAME, [(0, 3), (0, 1)], 0, SIX), "none 1 1 6 - 000001010001")
+
+# a phase that loops, through DOs alone or mixed with MOVE_TO, writes nothing and needs no room, whatever it sent on its way
+DO_TWO = node(([when(SURE, DO, 0)], [(1, send(2) + go(1))]), ([when(SURE, DO, 0)], [(1, send(3) + go(0))]))
+MIXED_TWO = node(([when(SURE, MOVE_TO, 1)], []), ([when(SURE, DO, 0)], [(1, send(3) + go(0))]))
+for two in (DO_TWO, MIXED_TWO):
+    case(phase(two, [(1, 0)], 0, b""), "loop 0 2 0 - -")
+    case(phase(two, [(1, 0)], 0, SIX), "loop 0 2 0 - a1a2a3a4a5a6")
+    case(phase(two, [(1, 0)], 1, SIX[:2]), "loop 1 2 0 - a1a2")
+    case(phase(two, [], 1, b""), "loop 1 2 0 - -")
+DO_TAIL = node(([when(SURE, DO, 0)], [(1, send(2) + go(1))]), ([when(SURE, DO, 0)], [(1, send(3) + go(2))]), ([when(SURE, MOVE_TO, 1)], []))
+case(phase(DO_TAIL, [(1, 0)], 0, SIX), "loop 1 3 0 - a1a2a3a4a5a6")        # 1, 2, 1
+case(phase(DO_TAIL, [(1, 0)], 1, b""), "loop 2 3 0 - -")
+case(phase(DO_TAIL, [(1, 0)], 2, SIX[:1]), "loop 1 3 0 - a1")
+# S moves decide, whatever makes them: a chain of 31 DOs, that ends by no clause, by STAY, by a DO; rings of 32; a ring of 31 with a way into it
+
+
+def do_chain(*last):
+    """Thirty-one states, each of which sends its number and moves to the next by a DO, and the last one."""
+    return node(*[([when(SURE, DO, 0)], [(q, send(q) + go(q + 1))]) for q in range(31)], last)
+
+
+DO_CHAIN = do_chain([], [])
+CHAIN_SENT = sent(*range(31))
+NINETY_NINE = b"\xbb" * 99
+case(phase(DO_CHAIN, [(1, 0)], 0, NINETY_NINE), "none 31 31 93 - " + CHAIN_SENT.hex() + "bbbbbbbbbbbb")
+case(phase(DO_CHAIN, [(1, 0)], 0, NINETY_NINE[:93]), "none 31 31 93 - " + CHAIN_SENT.hex())
+case(phase(DO_CHAIN, [(1, 0)], 0, NINETY_NINE[:92]), "refused 15 " + "bb" * 92)
+case(phase(DO_CHAIN, [(1, 0)], 30, SIX), "none 31 1 3 - 00001ea4a5a6")
+case(phase(DO_CHAIN, [(1, 0)], 31, SIX), "none 31 0 0 - a1a2a3a4a5a6")
+case(phase(DO_CHAIN, [], 0, b""), "none 31 31 0 - -")
+DO_CHAIN_STAY = do_chain([when(SURE, STAY)], [])
+case(phase(DO_CHAIN_STAY, [(1, 0)], 0, NINETY_NINE), "stay 31 31 93 - " + CHAIN_SENT.hex() + "bbbbbbbbbbbb")
+DO_CHAIN_DO = do_chain([when(SURE, DO, 1)], [(3, send(60)), (2, send(61) + send(62))])
+case(phase(DO_CHAIN_DO, [(1, 0)], 0, NINETY_NINE), "do 31 31 99 2 " + CHAIN_SENT.hex() + "00003d" "00003e")
+case(phase(DO_CHAIN_DO, [(1, 0)], 0, NINETY_NINE[:98]), "refused 15 " + "bb" * 98)
+DO_RING = do_chain([when(SURE, DO, 0)], [(31, send(31) + go(0))])
+for q in (0, 5, 31):
+    case(phase(DO_RING, [(1, 0)], q, b""), "loop %d 32 0 - -" % q)
+    case(phase(DO_RING, [(1, 0)], q, NINETY_NINE), "loop %d 32 0 - %s" % (q, "bb" * 99))
+MIXED_RING = node(*[([when(SURE, DO, 0)], [(q, send(q) + go(q + 1))]) if q % 2 == 0 else ([when(SURE, MOVE_TO, (q + 1) % 32)], []) for q in range(32)])
+case(phase(MIXED_RING, [(1, 0)], 0, SIX), "loop 0 32 0 - a1a2a3a4a5a6")
+case(phase(MIXED_RING, [(1, 0)], 31, b""), "loop 31 32 0 - -")
+DO_INTO = do_chain([when(SURE, DO, 0)], [(31, go(1))])
+case(phase(DO_INTO, [(1, 0)], 0, b""), "loop 1 32 0 - -")
+case(phase(DO_INTO, [(1, 0)], 1, SIX), "loop 2 32 0 - a1a2a3a4a5a6")
+
+# ifs eight deep, in then-parts and in else-parts; what they send before a move_to is kept
+EIGHT_DO = node(([when(SURE, DO, 0)], [(0, ladder(0) + send(50, 1))]), ([], []), ([when(SURE, STAY)], []))
+for have, commands in [
+        ([], [32, 50]),
+        ([0], [0, 33, 16, 50]),
+        ([1, 2, 3], [32, 50]),
+        ([0, 1, 2, 3, 4, 5, 6], [0, 1, 2, 3, 4, 5, 6, 39, 22, 21, 20, 19, 18, 17, 16, 50]),
+]:
+    got = sent(*commands)
+    children = [(1, 0)] + [(0, n) for n in have]
+    case(phase(EIGHT_DO, children, 0, FIFTY), "do 0 0 %d 0 %s" % (len(got), (got + FIFTY[len(got):]).hex()))
+    case(phase(EIGHT_DO, children, 0, FIFTY[:len(got) - 1]), "refused 15 " + FIFTY[:len(got) - 1].hex())
+EVERY_NAME = [(1, 0)] + [(0, n) for n in range(8)]
+case(phase(EIGHT_DO, EVERY_NAME, 0, FIFTY), "stay 2 1 24 - " + sent(0, 1, 2, 3, 4, 5, 6, 7).hex() + FIFTY[24:].hex())
+case(phase(EIGHT_DO, EVERY_NAME, 0, FIFTY[:24]), "stay 2 1 24 - " + sent(0, 1, 2, 3, 4, 5, 6, 7).hex())
+case(phase(EIGHT_DO, EVERY_NAME, 0, FIFTY[:23]), "refused 15 " + FIFTY[:23].hex())
+ELSE_DO = node(([when(SURE, DO, 0)], [(0, ELSE + send(8))]), ([], []))
+case(phase(ELSE_DO, [(1, 0)], 0, FIFTY[:27]), "do 0 0 27 0 " + sent(0, 1, 2, 3, 4, 5, 6, 7, 8).hex())
+case(phase(ELSE_DO, [(1, 0)], 0, FIFTY[:26]), "refused 15 " + FIFTY[:26].hex())
+case(phase(ELSE_DO, [(0, 7)], 0, FIFTY[:24]), "none 1 1 21 - " + sent(0, 1, 2, 3, 4, 5, 6).hex() + "aaaaaa")
+case(phase(ELSE_DO, [(0, 0)], 0, b""), "none 1 1 0 - -")
+INSIDE_DO = node(
+    ([when(SURE, DO, 0)], [(0, branch(0, branch(1, go(2) + send(9)) + send(1), branch(2, [], go(1)) + send(2)) + send(3))]),
+    ([when(SURE, STAY)], []),
+    ([], []))
+case(phase(INSIDE_DO, [(0, 0), (0, 1)], 0, KEPT[:12]), "none 2 1 0 - " + KEPT[:12].hex())
+case(phase(INSIDE_DO, [(0, 0)], 0, KEPT[:12]), "do 0 0 6 0 000001000003" + KEPT[6:12].hex())
+case(phase(INSIDE_DO, [(0, 3)], 0, KEPT[:12]), "stay 1 1 0 - " + KEPT[:12].hex())
+case(phase(INSIDE_DO, [(0, 2)], 0, KEPT[:12]), "do 0 0 6 0 000002000003" + KEPT[6:12].hex())
+
+# places of 256 and over; 4,096 children; 1,024 statements
+PLACES_DO = node(([when(0, DO, 0)], [(0, send(9, 1) + go(1))]), ([when(0, DO, 0)], [(1, send(10, 1))]))
+case(phase(PLACES_DO, LONG_LIST, 0, KEPT), "do 1 1 18 1 ff0009" "000109" "2b0109" "ff000a" "00010a" "2b010a" + KEPT[18:].hex())
+ALL_DO = node(([when(SURE, DO, 0)], [(0, send(63))]))
+case(phase(ALL_DO, [(1, 0)] * 4096, 0, ROOM), "do 0 0 12288 0 " + ALL_SENT.hex())
+case(phase(ALL_DO, [(1, 0)] * 4096, 0, ROOM[:-1]), "refused 15 " + ROOM[:-1].hex())
+case(phase(ALL_DO, [(1, 0)] * 4097, 0, ROOM), "refused 10 " + ROOM.hex())
+MANY_SENDS = node(([when(SURE, DO, 0)], [(0, send(7) * 1023 + go(1))]), ([], []))
+case(phase(MANY_SENDS, [(1, 0)], 0, b"\xee" * 3070), "none 1 1 3069 - " + "000007" * 1023 + "ee")
+case(phase(MANY_SENDS, [(1, 0)], 0, b"\xee" * 3068), "refused 15 " + "ee" * 3068)
+# the longest sheet. Its guard k is an atom of kind k % 4 on class k % 8 and name k % 32. With one child, of class 0 in name 0, the states 0,
+# 4, 8, .. run their clause 0, whose if is false; the others run their clause 2, since ALL is true of no child, and so is its if
+LONGEST_DO = sheet(
+    [klass(c) for c in range(8)], [atom(k % 4, k % 8, k % 32) for k in range(1024)],
+    [([when(8 * q + i, DO, i) for i in range(8)], [(8 * i, send(63, i) + branch(1000 + i, go((q + 1) % 32)) + send(0)) for i in range(8)]) for q in range(32)])
+assert len(LONGEST_DO) == 18616
+case(phase(LONGEST_DO, [(0, 0)], 0, KEPT), "do 0 0 6 0 00003f000000" + KEPT[6:].hex())
+case(phase(LONGEST_DO, [(0, 0)], 1, KEPT), "do 4 3 6 0 00003f000000" + KEPT[6:].hex())
+case(phase(LONGEST_DO, [(0, 0)], 31, KEPT[:6]), "do 0 1 6 0 00003f000000")
+case(phase(LONGEST_DO, [], 7, KEPT), "loop 7 32 0 - " + KEPT.hex())
+# as much as a line holds: 20 commands to each of 4,096 children, a move, and 21 more
+LINE_DO = node(([when(SURE, DO, 0)], [(0, send(1) * 20 + go(1))]), ([when(SURE, DO, 0)], [(2, send(2) * 21)]))
+MUCH = b"\xdd" * (524283 - len(LINE_DO) - 2 * 4096)
+MUCH_SENT = b"".join(u16(place) + b"\x01" for place in range(4096)) * 20 + b"".join(u16(place) + b"\x02" for place in range(4096)) * 21
+assert len(MUCH_SENT) == 503808
+case(phase(LINE_DO, [(1, 0)] * 4096, 0, MUCH), "do 1 1 503808 2 " + (MUCH_SENT + MUCH[503808:]).hex())
+assert len(QUESTIONS[-1]) == 1048576
 
 # --------------------------------------------------------------------------------------------------------------------------- the loop question
 
@@ -908,6 +1126,89 @@ TWENTY_OF = sheet([klass(0), klass(*range(20))], [atom(ANY_IN, 1, 2)], [([when(0
 case(loop(TWENTY_OF, 3, FORTY), "refused 14 " + FORTY.hex())
 case(loop(TWENTY_OF, 2, FORTY), "loop 4 0 0102" + FORTY[2:].hex())
 case(loop(TWENTY_OF, 1, FORTY), "free 0 " + FORTY.hex())
+
+# --------------------------------------------------------------------------------------------------------------------------- DOs in the loop question
+
+# a DO that moves counts, its ifs asked of the configuration's children, and no command is written: with name 0 alone the if is false
+DO_PRESS = sheet(
+    [klass(0, 1)], [X, Y],
+    [([when(0, DO, 0)], [(1, send(3) + branch(1, send(6) + go(1)) + send(4))]), ([when(0, DO, 0)], [(2, send(5) + go(0))])])
+case(loop(DO_PRESS, 1, SIX), "loop 3 0 00000001a5a6")
+case(loop(DO_PRESS, 1, SIX[:3]), "refused 15 a1a2a3")
+case(loop(DO_PRESS, 0, b""), "free 0 -")
+# the move_to in the else-part: now with name 0 alone
+ELSE_PRESS = sheet([klass(0, 1)], [X, Y], [([when(0, DO, 0)], [(1, branch(1, send(3), go(1)))]), ([when(0, DO, 0)], [(2, go(0))])])
+case(loop(ELSE_PRESS, 1, SIX), "loop 1 0 0000a3a4a5a6")
+# the guard of the if shares records with that of the when clause: y runs the clause, which moves where not x and y
+SHARED_PRESS = sheet([klass(0, 1)], [AND, NOT, X, Y], [([when(3, DO, 0)], [(1, branch(0, go(0)))])])
+case(loop(SHARED_PRESS, 1, SIX), "loop 2 0 0001a3a4a5a6")
+# a DO to the own state; an if that does not let it
+SIXTEEN = bytes(range(0x60, 0x70))
+case(loop(OWN_DO, 0, b""), "loop 0 0 -")
+case(loop(OWN_DO, 2, SIX), "loop 1 0 0100a3a4a5a6")
+case(loop(RETRY, 1, SIXTEEN), "loop 1 1 0000" + SIXTEEN[2:].hex())
+case(loop(RETRY, 2, SIX), "free 1 a1a2a3a4a5a6")
+# a DO that does not move ends the phase as before, and hides the clauses behind it; one that moves leads to its own target
+HIDING = [klass(0, 1)], [X, Y]
+case(loop(sheet(*HIDING, [([when(0, DO, 0), when(1, MOVE_TO, 1)], [(0, send(0))]), ([when(0, MOVE_TO, 0)], [])]), 1, SIX), "free 1 a1a2a3a4a5a6")
+case(loop(sheet(*HIDING, [([when(0, DO, 0), when(1, MOVE_TO, 1)], [(0, [])]), ([when(0, MOVE_TO, 0)], [])]), 1, SIX), "free 1 a1a2a3a4a5a6")
+case(loop(sheet(*HIDING, [([when(0, DO, 0), when(1, MOVE_TO, 1)], [(0, go(1))]), ([when(0, MOVE_TO, 0)], [])]), 1, SIX), "loop 1 0 0000a3a4a5a6")
+case(loop(sheet(*HIDING, [([when(0, DO, 0), when(1, MOVE_TO, 1)], [(0, go(2))]), ([when(0, MOVE_TO, 0)], []), ([], [])]), 1, SIX), "free 2 a1a2a3a4a5a6")
+# an action clause that no when clause runs makes no move
+case(loop(sheet(*HIDING, [([when(0, STAY)], [(0, go(0))])]), 1, SIX), "free 0 a1a2a3a4a5a6")
+case(loop(sheet(*HIDING, [([when(0, DO, 1)], [(0, go(0)), (1, [])]), ([when(0, DO, 0)], [(0, []), (1, go(1))])]), 1, SIX), "free 0 a1a2a3a4a5a6")
+# 0, 1 without name 0 and with names 1 and 2: no smaller number has both
+case(loop(EMPTY_DO, 1, SIXTEEN), "loop 6 0 00010002" + SIXTEEN[4:].hex())
+case(loop(SETTLING, 1, SIXTEEN), "free 1 " + SIXTEEN.hex())
+case(loop(SETTLING, 0, b""), "free 0 -")
+# chains and rings of DOs; the smallest state that returns to itself
+case(loop(DO_CHAIN, 0, b""), "free 31 -")
+case(loop(DO_CHAIN, 2, SIX), "free 31 a1a2a3a4a5a6")
+case(loop(DO_CHAIN_STAY, 0, b""), "free 31 -")
+case(loop(DO_CHAIN_DO, 0, b""), "free 31 -")
+case(loop(DO_RING, 0, b""), "loop 0 0 -")
+case(loop(MIXED_RING, 0, SIX), "loop 0 0 a1a2a3a4a5a6")
+case(loop(DO_INTO, 0, b""), "loop 0 1 -")
+case(loop(DO_TAIL, 0, b""), "loop 0 1 -")
+case(loop(MIXED_TWO, 2, SIX), "loop 1 0 0100a3a4a5a6")
+case(loop(node(*[([when(SURE, DO, 0)], [(0, go(t))]) for t in (4, 0, 2, 4, 3)]), 0, b""), "loop 0 2 -")
+# the largest number of moves is reached in one configuration and from one state alone: with name 1 the if holds state 1 back
+case(loop(sheet([klass(0, 1)], [Y, X], [([], []), ([when(1, DO, 0)], [(0, branch(0, [], go(2)))]), ([when(1, DO, 0)], [(0, go(3))]), ([], [])]), 1, SIX),
+     "free 2 a1a2a3a4a5a6")
+# S of 32: state q goes on where name q modulo 5 is there, so the chain of 31 and the ring of 32 want every name
+ANYWAY = atom(ALL_IN, EVERYONE, *range(32))
+
+
+def five_by_do(states, last):
+    """Each state runs a clause whose if moves on to the next of so many; and the last one."""
+    return sheet(
+        [klass(0, 1, 2, 3, 4)], [atom(ANY_IN, 0, n) for n in range(5)] + [ANYWAY],
+        [([when(5, DO, 0)], [(q, branch(q % 5, send(1) + go((q + 1) % 32), send(2)))]) for q in range(states)] + last)
+
+
+case(loop(five_by_do(31, [([], [])]), 1, TEN), "free 31 " + TEN.hex())
+case(loop(five_by_do(32, []), 1, TEN), "loop 31 0 " "00000001000200030004")
+# ifs eight deep: through the then-parts all eight names are wanted, through the else-parts the last one alone
+DEEP_THEN, DEEP_ELSE = go(0), branch(7, go(0))
+for n in reversed(range(8)):
+    DEEP_THEN = branch(n, DEEP_THEN, send(n))
+for n in reversed(range(7)):
+    DEEP_ELSE = branch(n, send(n), DEEP_ELSE)
+case(loop(node(([when(SURE, DO, 0)], [(0, DEEP_THEN)])), 1, SIXTEEN), "loop 255 0 " "00000001000200030004000500060007")
+case(loop(node(([when(SURE, DO, 0)], [(0, DEEP_ELSE)])), 1, SIXTEEN), "loop 128 0 0007" + SIXTEEN[2:].hex())
+case(loop(node(([when(6, DO, 0)], [(0, go(0))])), 1, SIXTEEN), "loop 64 0 0006" + SIXTEEN[2:].hex())
+# numbers in which a present class is empty are skipped: the if wants class 1 without children
+EMPTY_IF = sheet([klass(0, 5), klass(3)], [atom(ALL_IN, 1, 0), atom(ANY_IN, 0, 5)], [([when(1, DO, 0)], [(0, branch(0, go(0)))])])
+case(loop(EMPTY_IF, 3, SIX), "free 0 a1a2a3a4a5a6")
+case(loop(EMPTY_IF, 1, SIX), "loop 2 0 0005a3a4a5a6")
+case(loop(EMPTY_IF, 2, SIX), "free 0 a1a2a3a4a5a6")
+# 20 names, of which an if under a DO wants every one: to the own state, a loop in the last configuration alone; to another, one move there
+TWENTY_WANTED = every_name([atom(ANY_IN, 0, n) for n in range(12, 32)])
+TWENTY_GUARDS = TWENTY_WANTED + [ANYWAY]
+LAST_BY_DO = sheet([klass(*range(12, 32))], TWENTY_GUARDS, [([when(len(TWENTY_WANTED), DO, 0)], [(0, send(1) + branch(0, send(2) + go(0), send(3)))])])
+case(loop(LAST_BY_DO, 1, FORTY), "loop 1048575 0 " + "".join("00%02x" % n for n in range(12, 32)))
+FREE_BY_DO = sheet([klass(*range(12, 32))], TWENTY_GUARDS, [([when(len(TWENTY_WANTED), DO, 0)], [(0, send(1) + branch(0, send(2) + go(1), send(3)))]), ([], [])])
+case(loop(FREE_BY_DO, 1, FORTY), "free 1 " + FORTY.hex())
 
 # --------------------------------------------------------------------------------------------------------------------- class texts that are read
 
@@ -1060,7 +1361,7 @@ GROUP = sheet(
     [klass(0, 1, 2, 3), klass(1)], [atom(ANY_NOT_IN, 0, 3), atom(ANY_IN, 0, 1, 2), AND, atom(ALL_IN, 1, 1), atom(ALL_IN, 0, 0)],
     [([when(0, MOVE_TO, 1)], []), ([when(1, MOVE_TO, 2), when(2, MOVE_TO, 0)], []), ([], [])])
 reads("class: $FWPART_$TOP$C " + EXCERPT.replace(".", "") + "state: HVMIXED", GROUPS, GROUP, "ANALOG_ON_RED", "LVMIXED", "HVMIXED")
-case(phase(GROUP, [(0, 0), (1, 1)], 0), "loop 1 3")
+case(phase(GROUP, [(0, 0), (1, 1)], 0, b""), "loop 1 3 0 - -")
 
 # ------------------------------------------------------------------------------------------------------------------- the forms of the class text
 
@@ -1331,7 +1632,10 @@ for line in [
         "judge 0G", "judge 0A", "judge 0x00", "judge --", "judge -0", "judge 00-", "judge 00\r", "judge\t00", "judge /0", "judge 0:", "judge 0`", "judge g0",
         "probe 00 -", "probe 00 - 0 0", "probe 00 -  0", "probe 00 - 256", "probe 00 - 1000", "probe 00 - 00", "probe 00 - 01", "probe 00 - 007", "probe 00 - -1",
         "probe 00 - +1", "probe 00 - 1a", "probe 00 - a", "probe 00 - ", "probe 00  0", "probe  - 0", "probe 00 0 0", "probe 0 - 0", "probe 00 - 999",
-        "probe 00 - 0/", "probe 00 - 2:", "probe 00 - 300", "probe 00 - 18446744073709551616", "phase 00 -", "phase 00 - 0 0", "phase 00 - x", "phase zz - 0",
+        "probe 00 - 0/", "probe 00 - 2:", "probe 00 - 300", "probe 00 - 18446744073709551616", "phase 00 -", "phase 00 - 0 0", "phase 00 - x -", "phase zz - 0 -",
+        "phase 00 - 0", "phase - - 0", "phase 00 00 100", "phase 00 - 99", "phase " + SETTLING.hex() + " 0000 0", "phase 00 - 0 - -", "phase 00 - 0 ", "phase 00 - 0  -",
+        "phase 00 - 256 -", "phase 00 - 00 -", "phase 00 - - -", "phase 00 0 0 -", "phase 0 - 0 -", "phase 00 - 0 A0", "phase 00 - 0 a", "phase 00 - 0 --", "phase  - 0 -",
+        "Phase 00 - 0 -", "phases 00 - 0 -", "phas 00 - 0 -",
         "command 00 - 0 0", "command 00 - 0 0 - -", "command 00 - 256 0 -", "command 00 - 0 256 -", "command 00 - 0 0 0", "command 00 - 0 0 ", "command 00 - 0 00 -",
         "command 00 0 0 0 -", "command 0 - 0 0 -", "loop 00 0", "loop 00 0 - -", "loop 00 256 -", "loop 00 - -", "loop 00 0 0", "loop x 0 -", "loop 00 0  ", "free 0", "accepted",
         "read", "read -", "read - - - - -", "read - - - - - - -", "read - - - - -  ", "read  - - - - - -", "read - - - - - ", "read - - - - - 0", "read 0 - - - - -",
@@ -1340,7 +1644,7 @@ for line in [
 # the same forms, right
 for line, answer in [
         ("judge 00", "refused 1"), ("judge -", "refused 1"), ("judge 0123456789abcdef", "refused 1"), ("probe 00 - 0", "refused 1"), ("probe 00 - 255", "refused 1"),
-        ("probe - - 10", "refused 1"), ("phase 00 00 100", "refused 1"), ("phase 00 - 99", "refused 1"), ("command - - 0 0 -", "refused 1 -"),
+        ("probe - - 10", "refused 1"), ("phase 00 00 100 -", "refused 1 -"), ("phase 00 - 99 0123456789abcdef", "refused 1 0123456789abcdef"), ("command - - 0 0 -", "refused 1 -"),
         ("command - 00 255 255 00ff", "refused 1 00ff"), ("loop - 0 -", "refused 1 -"), ("loop 00 255 0123456789abcdef", "refused 1 0123456789abcdef"),
         ("read - - - - - -", "refused 16 0 - -"), ("read 00 00 00 00 00ff ff00", "refused 16 0 00ff ff00"), ("read 20 - - - - 0123456789abcdef", "refused 16 1 - 0123456789abcdef")]:
     case(line, answer)
