@@ -379,9 +379,28 @@ def holds(guard, children):
     return any(facts) if quantifier == "ANY" else all(facts)
 
 
+def reached(statements, children):
+    """The state of the move_to that statements reach with these children, or None."""
+    for s in statements:
+        to = s[1] if s[0] == "move_to" else None
+        if s[0] == "if":
+            to = reached(s[2] if holds(s[1], children) else s[3], children)
+        if to is not None:
+            return to
+    return None
+
+
+def moves_to(whens, actions, children):
+    """Where a state with these clauses moves by its first true when clause, itself or by the action clause that it runs; or None."""
+    word, name = next((r for guard, r in whens if holds(guard, children)), (None, None))
+    if word == "do":
+        return reached(dict(actions)[name], children)
+    return name if word == "move_to" else None
+
+
 def line_of(names, commands, classes, states):
     own = [s for s, _, _ in states]
-    whens = {s: w for s, w, _ in states}
+    clauses = {s: (w, a) for s, w, a in states}
     cells = [(c, n) for c, some in classes for n in sorted(some, key=names.index)]
     if len(cells) > 20:
         return "refused 14"
@@ -393,8 +412,7 @@ def line_of(names, commands, classes, states):
         for q, state in enumerate(own):
             walk = [state]
             while True:
-                word, target = next((r for guard, r in whens[walk[-1]] if holds(guard, children)), (None, None))
-                walk.append(target if word == "move_to" else None)
+                walk.append(moves_to(*clauses[walk[-1]], children))
                 if walk[-1] is None or walk[-1] in walk[:-1]:
                     break
             if walk[-1] == state:
