@@ -1,17 +1,20 @@
 /*
- * The five questions about a press's sheet, from C. tests/c_example builds this program, runs it and compares what it prints. That a sheet
- * can be made of a class text is in examples/read.c.
+ * The five questions about the sheets of a press and an oven, from C. tests/c_example builds this program, runs it and compares what it prints.
+ * That a sheet can be made of a class text is in examples/read.c.
  *
  * The press has heaters, each COLD (0), HOT (1) or FAULT (2), and two own states:
  *   READY (0): when any heater is not HOT, move to HOLD. Command 9: do 4 to all; if all are HOT then move_to HOLD; do 5 to all.
  *   HOLD (1): when all heaters are HOT, move to READY.
+ * The oven has the same heaters and own states, and its when clauses run action clauses:
+ *   READY: when any heater is in FAULT, DO command 3. Command 3: do 7 to all; move_to HOLD.
+ *   HOLD: when any heater is HOT, DO command 4. Command 4: do 8 to all.
  */
 #include <stdio.h>
 #include <string.h>
 
 #include "bargewicker.h"
 
-static const uint8_t press[96] = {
+static const uint8_t press_bytes[96] = {
     /* contents: start and length of the six bodies */
     0x18, 0, 4, 0, 0x1c, 0, 8, 0, 0x24, 0, 8, 0, 0x2c, 0, 0x10, 0, 0x3c, 0, 4, 0, 0x40, 0, 0x20, 0,
     /* one child class with the names 0, 1 and 2 */
@@ -28,11 +31,37 @@ static const uint8_t press[96] = {
     0, 4, 255, 0, 0, 0, 0, 0, 2, 0, 1, 0, 1, 0, 0, 0, 1, 1, 0, 0, 0, 0, 0, 0, 0, 5, 255, 0, 0, 0, 0, 0,
 };
 
+static const uint8_t oven_bytes[92] = {
+    /* contents, child class and states as above, but that HOLD has an action clause, too */
+    0x18, 0, 4, 0, 0x1c, 0, 8, 0, 0x24, 0, 8, 0, 0x2c, 0, 0x10, 0, 0x3c, 0, 8, 0, 0x44, 0, 0x18, 0,
+    7, 0, 0, 0,
+    1, 0, 1, 0, 1, 0, 1, 0,
+    /* when clauses: guard, DO, the number of the action clause within its state */
+    0, 0, 1, 0, 1, 0, 1, 0,
+    /* guards: ANY of class 0 in FAULT; ANY of class 0 in HOT */
+    0, 0, 0, 0, 4, 0, 0, 0, 0, 0, 0, 0, 2, 0, 0, 0,
+    /* action clauses: command 3, two statements; command 4, one */
+    3, 0, 2, 0, 4, 0, 1, 0,
+    /* do 7 to all; move_to 1. do 8 to all */
+    0, 7, 255, 0, 0, 0, 0, 0, 1, 1, 0, 0, 0, 0, 0, 0, 0, 8, 255, 0, 0, 0, 0, 0,
+};
+
+enum { BUFFER = 16 }; /* bytes of each buffer that is lent for commands; a call may be told of fewer */
+
+/* A sheet or a child list, and what the output calls it. */
+struct lent { const char *name; const uint8_t *bytes; size_t length; };
+
+static const struct lent press = {"the press", press_bytes, sizeof press_bytes};
+static const struct lent oven = {"the oven", oven_bytes, sizeof oven_bytes};
+
 static const char *const own[] = {"READY", "HOLD"};
 static const char *const heater[] = {"COLD", "HOT", "FAULT"};
-static const uint8_t hot[] = {0, 1};
-static const uint8_t cold[] = {0, 0};
-static const uint8_t cold_and_hot[] = {0, 0, 0, 1};
+static const uint8_t list[] = {0, 1, 0, 0, 0, 1, 0, 2}; /* HOT, COLD, HOT, FAULT */
+static const struct lent hot = {"HOT", list, 2};
+static const struct lent cold = {"COLD", list + 2, 2};
+static const struct lent fault = {"FAULT", list + 6, 2};
+static const struct lent cold_and_hot = {"COLD and HOT", list + 2, 4};
+static const struct lent hot_and_fault = {"HOT and FAULT", list + 4, 4};
 
 /* Prints the end of a refusal's line and returns 1, or returns 0 where there is none. */
 static int refused(uint64_t word)
@@ -42,19 +71,19 @@ static int refused(uint64_t word)
     return 1;
 }
 
-/* The judge. */
-static void judge(const uint8_t *sheet, size_t length)
+/* The judge of a sheet's first bytes. */
+static void judge(struct lent sheet, size_t length)
 {
-    printf("judge, %u bytes: ", (unsigned)length);
-    if (!refused(bw_judge(sheet, length))) printf("a class sheet\n");
+    printf("judge, %s, %u bytes: ", sheet.name, (unsigned)length);
+    if (!refused(bw_judge(sheet.bytes, length))) printf("a class sheet\n");
 }
 
 /* The probe of a state with these children. */
-static void probe(const char *who, const uint8_t *children, size_t length, uint8_t state)
+static void probe(struct lent sheet, struct lent children, uint8_t state)
 {
     static const char *const referrer[] = {"MOVE_TO", "DO", "STAY"};
-    uint64_t word = bw_probe(press, sizeof press, children, length, state);
-    printf("probe of %s with %s: ", own[state], who);
+    uint64_t word = bw_probe(sheet.bytes, sheet.length, children.bytes, children.length, state);
+    printf("probe, %s, of %s with %s: ", sheet.name, own[state], children.name);
     if (refused(word)) return;
     if (bw_kind(word) == BW_PROBE_NONE)
         printf("no clause\n");
@@ -62,44 +91,62 @@ static void probe(const char *who, const uint8_t *children, size_t length, uint8
         printf("clause %u, %s %u\n", (unsigned)bw_probe_clause(word), referrer[bw_probe_referrer(word)], (unsigned)bw_probe_target(word));
 }
 
-/* The when phase from a state with these children. */
-static void when_phase(const uint8_t *sheet, const char *who, const uint8_t *children, size_t length, uint8_t state)
+/* Prints the commands that were sent, as child/command, and the end of the line. */
+static void print_sent(const uint8_t *out, size_t end)
 {
-    static const char *const by[] = {"settled by no clause", "settled by STAY", "settled by DO", "loop"};
-    uint64_t word = bw_when_phase(sheet, sizeof press, children, length, state);
-    printf("when phase from %s with %s: ", own[state], who);
-    if (refused(word)) return;
-    printf("%s, %s, moves %u", by[bw_kind(word)], own[bw_phase_state(word)], (unsigned)bw_phase_moves(word));
-    if (bw_kind(word) == BW_PHASE_DO) printf(", command %u", (unsigned)bw_phase_command(word));
+    size_t i;
+    printf(", sent %u bytes%s", (unsigned)end, end > 0 ? ":" : "");
+    for (i = 0; i < end; i += 3) printf(" %u/%u", (unsigned)(out[i] + 256 * out[i + 1]), out[i + 2]);
     printf("\n");
 }
 
-/* A command to READY with these children and a buffer of so much room: what is sent, and whether the bytes behind it are kept. */
-static void command(const char *who, const uint8_t *children, size_t length, uint8_t number, size_t room)
+/* Prints how many bytes behind those written are what the buffer was filled with. */
+static void print_kept(const uint8_t *out, size_t end)
 {
-    uint8_t out[16];
-    size_t i, end = 0, kept;
+    size_t kept;
+    for (kept = 0; end + kept < BUFFER && out[end + kept] == 0xee; kept++) continue;
+    printf("    bytes kept: %u of %u\n", (unsigned)kept, (unsigned)BUFFER);
+}
+
+/* The when phase from a state with these children and a buffer of so much room: where it settles, and what its DOs sent. */
+static void when_phase(struct lent sheet, struct lent children, uint8_t state, size_t room)
+{
+    static const char *const by[] = {"settled by no clause", "settled by STAY", "settled by DO", "loop"};
+    uint8_t out[BUFFER];
     uint64_t word;
     memset(out, 0xee, sizeof out);
-    word = bw_command(press, sizeof press, children, length, 0, number, out, room);
-    printf("command %u in READY with %s, buffer of %u: ", number, who, (unsigned)room);
+    word = bw_when_phase(sheet.bytes, sheet.length, children.bytes, children.length, state, out, room);
+    printf("when phase, %s, from %s with %s, buffer of %u: ", sheet.name, own[state], children.name, (unsigned)room);
     if (!refused(word)) {
-        end = bw_command_written(word);
-        printf("%s, %s", bw_kind(word) == BW_COMMAND_HANDLED ? "handled" : "ignored", own[bw_command_state(word)]);
-        for (i = 0; i < end; i += 3) printf(", child %u gets %u", (unsigned)(out[i] + 256 * out[i + 1]), out[i + 2]);
-        printf("\n");
+        printf("%s, %s, moves %u", by[bw_kind(word)], own[bw_phase_state(word)], (unsigned)bw_phase_moves(word));
+        if (bw_kind(word) == BW_PHASE_DO) printf(", command %u", (unsigned)bw_phase_command(word));
+        print_sent(out, bw_phase_written(word));
     }
-    for (kept = 0; end + kept < sizeof out && out[end + kept] == 0xee; kept++) continue;
-    printf("    bytes written: %u, kept: %u of %u\n", (unsigned)end, (unsigned)kept, (unsigned)sizeof out);
+    print_kept(out, bw_phase_written(word));
+}
+
+/* A command to the press in READY with these children and a buffer of so much room: what is sent. */
+static void command(struct lent children, uint8_t number, size_t room)
+{
+    uint8_t out[BUFFER];
+    uint64_t word;
+    memset(out, 0xee, sizeof out);
+    word = bw_command(press.bytes, press.length, children.bytes, children.length, 0, number, out, room);
+    printf("command %u in READY with %s, buffer of %u: ", number, children.name, (unsigned)room);
+    if (!refused(word)) {
+        printf("%s, %s", bw_kind(word) == BW_COMMAND_HANDLED ? "handled" : "ignored", own[bw_command_state(word)]);
+        print_sent(out, bw_command_written(word));
+    }
+    print_kept(out, bw_command_written(word));
 }
 
 /* The loop question, and the children that make the node loop. */
-static void loop(const char *which, const uint8_t *sheet, uint8_t present)
+static void loop(struct lent sheet, uint8_t present)
 {
     uint8_t out[6];
     uint32_t i;
-    uint64_t word = bw_loop(sheet, sizeof press, present, out, sizeof out);
-    printf("loop question, %s, present %u: ", which, present);
+    uint64_t word = bw_loop(sheet.bytes, sheet.length, present, out, sizeof out);
+    printf("loop question, %s, present %u: ", sheet.name, present);
     if (refused(word)) return;
     if (bw_kind(word) == BW_LOOP_FREE) {
         printf("free, moves at most %u\n", (unsigned)bw_loop_moves(word));
@@ -112,24 +159,42 @@ static void loop(const char *which, const uint8_t *sheet, uint8_t present)
 
 int main(void)
 {
-    uint8_t other[sizeof press];
-    judge(press, sizeof press);
-    judge(press, sizeof press - 1);
-    probe("COLD", cold, sizeof cold, 0);
-    probe("HOT", hot, sizeof hot, 0);
-    when_phase(press, "COLD and HOT", cold_and_hot, sizeof cold_and_hot, 0);
-    when_phase(press, "HOT", hot, sizeof hot, 1);
-    command("HOT", hot, sizeof hot, 9, 16);
-    command("COLD", cold, sizeof cold, 9, 16);
-    command("HOT", hot, sizeof hot, 7, 16);
-    command("COLD", cold, sizeof cold, 9, 5); /* six bytes would be sent: refused, and not one is written */
-    loop("the press", press, 1);
-    loop("the press", press, 2);
+    uint8_t copy[sizeof press_bytes];
+    struct lent other = {"the press with ANY for ALL", copy, sizeof press_bytes};
+    struct lent stuck = {"the oven with move_to READY", copy, sizeof oven_bytes};
+
+    judge(press, press.length);
+    judge(press, press.length - 1);
+    probe(press, cold, 0);
+    probe(press, hot, 0);
+    when_phase(press, cold_and_hot, 0, BUFFER);
+    when_phase(press, hot, 1, 0); /* nothing is sent, and no room is needed */
+    command(hot, 9, BUFFER);
+    command(cold, 9, BUFFER);
+    command(hot, 7, BUFFER);
+    command(cold, 9, 5); /* six bytes would be sent: refused, and not one is written */
+    loop(press, 1);
+    loop(press, 2);
 
     /* the same press with ANY heater HOT, not ALL, for the way back: READY and HOLD follow each other without end */
-    memcpy(other, press, sizeof press);
-    other[52] = 0;
-    when_phase(other, "COLD and HOT", cold_and_hot, sizeof cold_and_hot, 0);
-    loop("ANY for ALL", other, 1);
+    memcpy(copy, press_bytes, sizeof press_bytes);
+    copy[52] = 0;
+    when_phase(other, cold_and_hot, 0, BUFFER);
+    loop(other, 1);
+
+    /* the oven: the clause of command 3 sends and moves, so the when phase goes on in HOLD; that of command 4 sends and ends it */
+    judge(oven, oven.length);
+    probe(oven, hot_and_fault, 0); /* a probe runs nothing */
+    when_phase(oven, hot_and_fault, 0, BUFFER);
+    when_phase(oven, hot_and_fault, 0, 11); /* twelve bytes would be sent */
+    when_phase(oven, fault, 0, BUFFER);
+    when_phase(oven, hot, 1, BUFFER);
+    loop(oven, 1);
+
+    /* the same oven with command 3 moving to READY itself: a DO to the own state never ends, and nothing is sent */
+    memcpy(copy, oven_bytes, sizeof oven_bytes);
+    copy[77] = 0;
+    when_phase(stuck, hot_and_fault, 0, 0);
+    loop(stuck, 1);
     return 0;
 }

@@ -15,9 +15,9 @@
  *   judge       0 accepted
  *   probe       0 none
  *               1 clause       16-31 clause number, 32-39 referrer, 40-47 target
- *   when phase  0 no clause    16-23 state, 24-31 moves
- *               1 STAY         16-23 state, 24-31 moves
- *               2 DO           16-23 state, 24-31 moves, 32-39 command
+ *   when phase  0 no clause    16-23 state, 24-31 moves, 40-63 bytes written
+ *               1 STAY         16-23 state, 24-31 moves, 40-63 bytes written
+ *               2 DO           16-23 state, 24-31 moves, 32-39 command, 40-63 bytes written
  *               3 loop         16-23 state, 24-31 moves
  *   command     0 ignored      16-23 state
  *               1 handled      16-23 state, 32-63 bytes written
@@ -79,9 +79,14 @@ uint64_t bw_judge(const uint8_t *sheet, size_t sheet_length);
  * Refusals 1 to 9, 10, 11. */
 uint64_t bw_probe(const uint8_t *sheet, size_t sheet_length, const uint8_t *children, size_t children_length, uint8_t state);
 
-/* Where does the when phase from the state settle with these children, and by what; or does it loop? A loop is answered after as
- * many moves as the class has states, with the state after them. Refusals 1 to 9, 10, 11. */
-uint64_t bw_when_phase(const uint8_t *sheet, size_t sheet_length, const uint8_t *children, size_t children_length, uint8_t state);
+/* Where does the when phase from the state settle with these children, and by what; or does it loop? A DO runs its action clause at
+ * once. If that reaches a move_to, even one to the own state, it is a move as by MOVE_TO, and the phase goes on; if not, the phase has
+ * settled by this DO, and the answer has its command, which is not to be given again. Three bytes for each command that these clauses
+ * sent go to the buffer, in the order in which they were sent: the child's place in the list, low byte first, and the command. A loop is
+ * answered after as many moves as the class has states, with the state after them; it writes nothing and needs no room.
+ * Refusals 1 to 9, 10, 11, and 15 where the buffer is too short for what is sent; 12,582,912 bytes are enough for every phase. */
+uint64_t bw_when_phase(const uint8_t *sheet, size_t sheet_length, const uint8_t *children, size_t children_length, uint8_t state,
+                       uint8_t *out, size_t room);
 
 /* What does the command send to which children, and which state does it leave? Three bytes for each command sent go to the buffer:
  * the child's place in the list, low byte first, and the command. Refusals 1 to 9, 10, 11, 12, and 15 where the buffer is too short
@@ -91,7 +96,8 @@ uint64_t bw_command(const uint8_t *sheet, size_t sheet_length, const uint8_t *ch
 
 /* Can a node of this class loop, if children of the present classes (bit c for class c) are in any states? On a loop the answer is the
  * smallest configuration with one, the smallest state that returns to itself there, and in the buffer the children, two bytes, class
- * and name, for each set bit of the configuration (bw_loop_written). Free: the largest number of moves that a phase makes.
+ * and name, for each set bit of the configuration (bw_loop_written). Free: the largest number of moves that a phase makes. Moves by a DO
+ * count, and no command is written.
  * Refusals 1 to 9, 13, 14, and 15 where the buffer has not two bytes for each name of the present classes; 40 are always enough. */
 uint64_t bw_loop(const uint8_t *sheet, size_t sheet_length, uint8_t present, uint8_t *out, size_t room);
 
@@ -125,10 +131,11 @@ static inline uint32_t bw_probe_clause(uint64_t word) { return bw_field(word, 16
 static inline uint32_t bw_probe_referrer(uint64_t word) { return bw_field(word, 32, 8); }
 static inline uint32_t bw_probe_target(uint64_t word) { return bw_field(word, 40, 8); }
 
-/* The when phase: the state reached, the moves made, and the command of a DO. */
+/* The when phase: the state reached, the moves made, the command of the DO that it settled by, and how many bytes were written. */
 static inline uint32_t bw_phase_state(uint64_t word) { return bw_field(word, 16, 8); }
 static inline uint32_t bw_phase_moves(uint64_t word) { return bw_field(word, 24, 8); }
 static inline uint32_t bw_phase_command(uint64_t word) { return bw_field(word, 32, 8); }
+static inline uint32_t bw_phase_written(uint64_t word) { return bw_field(word, 40, 24); }
 
 /* The command: the state that it leaves, and how many bytes were written. */
 static inline uint32_t bw_command_state(uint64_t word) { return bw_field(word, 16, 8); }
