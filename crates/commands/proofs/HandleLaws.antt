@@ -4,12 +4,11 @@ use Prim.Native.Nat.{ℕ, _+_, _*_, _-_, _<_, _≤_}
 use native.Mathlib.Omega.{arith}
 use mathlib.Core.Path.{_≡_, refl, sym, _∙_, ap}
 use mathlib.Core.Bool.{Bool, true, false}
-use mathlib.Core.List.{List, [], _∷_, _++_, append-nil}
+use mathlib.Core.List.{List, _++_}
 use mathlib.Core.Logic.{_⊎_, inl, inr}
 use mathlib.Core.Option.{Option, none, some}
 use lib.Dec.{eqb}
-use lib.ListN.{length, take, drop, length-take, drop-of-length-le}
-use lib.Seq.{sets, sets-eq}
+use lib.ListN.{length, take, drop, length-take}
 use Rattle.model.specs.Words.{maybe, listed}
 use Rattle.model.specs.Tree.{Child, Action, State, no-action}
 use Rattle.model.specs.Running as Running
@@ -32,6 +31,7 @@ use Rattle.sheet.proofs.Rules.{Right}
 use Rattle.running.specs.Running.{moved-as, RunsAction}
 use Rattle.running.specs.declared.Moved.{Moved}
 use Rattle.running.specs.declared.Ran.{Ran}
+use Rattle.running.proofs.SendLaws.{sets-all}
 use Rattle.running.proofs.ActionLaws.{past-count, state-inside}
 use Rattle.commands.specs.Commands.{first-action-for}
 use Rattle.commands.proofs.HandlingLaws.{HandledSo, handled-so, short-so}
@@ -83,20 +83,9 @@ module _ (b : List ℕ) (right : Right b) (q m : ℕ) where
       let (l, t, h) = least-some (action-count (body b 1) q) own hit w in
       record { there = l; handled = λ ks. rw (clause-told hit l t h) }
 
--- no bytes before the others
-pub none-before : (e l : List ℕ) → length e ≡ 0 → e ++ l ≡ l
-none-before [] l h = refl
-none-before (x ∷ e) l h = absurd (omega arith)
-
 -- the state after a move, or with none
 pub moved-told : (q : ℕ) {x y : Moved} → x ≡ y → maybe (moved-as x) (λ _. q) (λ t. t) ≡ maybe (moved-as y) (λ _. q) (λ t. t)
 moved-told q e = ap (λ (z : Moved). maybe (moved-as z) (λ _. q) (λ t. t)) e
-
--- bytes in as much room as they take
-pub sets-all : (l bs : List ℕ) → length l ≡ length bs → sets l 0 bs ≡ bs
-sets-all l bs e =
-    let h : length l ≤ 0 + length bs = omega arith in
-    sets-eq bs l 0 (omega arith) ∙ ap (λ (x : List ℕ). bs ++ x) (drop-of-length-le l h) ∙ append-nil bs
 
 -- what handling comes to: the count run, and with room the run that writes
 module _ (b : List ℕ) (q m a : ℕ) (C : Chosen b q m a) (list e e′ out out′ : List ℕ) (r : Ran) (D : RunsAction b list q a e e′ 0 r) (same : out′ ≡ out) where

@@ -1,1 +1,4 @@
 pub mod TurnLaws
+pub mod WalkLaws
+pub mod PhasingLaws
+pub mod Unique

@@ -1,2 +1,3 @@
 pub mod Phasing
 pub mod Phases
+pub mod Unique

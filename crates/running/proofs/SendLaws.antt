@@ -4,10 +4,10 @@ use Prim.Native.Nat.{ℕ, suc, _+_, _*_, _/_, _%_, _<_, _≤_}
 use native.Mathlib.Omega.{arith}
 use mathlib.Core.Path.{_≡_, refl, sym, _∙_, ap}
 use mathlib.Core.Bool.{Bool, true, false}
-use mathlib.Core.List.{List, [], _∷_, _++_}
+use mathlib.Core.List.{List, [], _∷_, _++_, append-nil}
 use lib.Dec.{eqb}
-use lib.ListN.{length, getD, drop, set, length-drop, length-append}
-use lib.Seq.{sets, length-sets, drop-cons}
+use lib.ListN.{length, getD, drop, set, length-drop, length-append, drop-of-length-le}
+use lib.Seq.{sets, sets-eq, length-sets, drop-cons}
 use Rattle.model.specs.Words.{kept}
 use Rattle.model.specs.Tree.{Child, Pattern, everyone, of-class}
 use Rattle.model.specs.Guards.{concerns}
@@ -22,6 +22,17 @@ sets-append l i [] ys = let e : i ≡ i + 0 = omega arith in ap (λ (j : ℕ). s
 sets-append l i (x ∷ xs) ys =
     let e : suc i + length xs ≡ i + suc (length xs) = omega arith in
     sets-append (set l i x) (suc i) xs ys ∙ ap (λ (j : ℕ). sets (sets (set l i x) (suc i) xs) j ys) e
+
+-- no bytes before the others
+pub none-before : (e l : List ℕ) → length e ≡ 0 → e ++ l ≡ l
+none-before [] l h = refl
+none-before (x ∷ e) l h = absurd (omega arith)
+
+-- bytes in as much room as they take
+pub sets-all : (l bs : List ℕ) → length l ≡ length bs → sets l 0 bs ≡ bs
+sets-all l bs e =
+    let h : length l ≤ 0 + length bs = omega arith in
+    sets-eq bs l 0 (omega arith) ∙ ap (λ (x : List ℕ). bs ++ x) (drop-of-length-le l h) ∙ append-nil bs
 
 -- the bytes of commands in two parts
 pub bytes-append : (xs ys : List Sent) → sent-bytes (xs ++ ys) ≡ sent-bytes xs ++ sent-bytes ys

@@ -4,7 +4,8 @@ use Prim.Native.Nat.{_+_}
 use native.Mathlib.Omega.{arith}
 use mathlib.Core.Path.{refl}
 use Rattle.sheet.proofs.Rules.{accepted-right}
-use Rattle.commands.proofs.HandleLaws.{Chosen, ignored-told, chosen-told, none-before, moved-told, short-told, handled-told}
+use Rattle.running.proofs.SendLaws.{none-before}
+use Rattle.commands.proofs.HandleLaws.{Chosen, ignored-told, chosen-told, moved-told, short-told, handled-told}
 use Rattle.commands.proofs.HandlingLaws.{ignored-so}
 use borrow.Author.Needs.{needs}
 use Rattle.commands.proofs.handle.Statement.{statement}
