@@ -139,7 +139,7 @@ module _ (b l : List ℕ) (q : ℕ) (a : Asked b l q) where
       go (P.Refused x) e = not-zero x (cc)
       go (P.Given p) e = subst (ProbedRight c ks q) (sym (probed-told (probed-as p) (probe c ks q) (cc))) (probed-right c ks q (probe c ks q) refl)
 
-  pub phase-right : (r : PhaseAnswer) (final : List ℕ) → Promised (phase-from b l q) r final → PhaseRight c ks q r
+  pub phase-right : (r : PhaseAnswer) (final : List ℕ) → Promised (phase-from b l q out) r final → PhaseRight c ks q r
   unfolding reply values
   phase-right r final h = go r (h .numbers-are ∙ ap (numbers values) (fits (λ c. give (phased (phase c ks q)) [])))
     where

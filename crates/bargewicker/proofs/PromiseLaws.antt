@@ -39,7 +39,7 @@ use Rattle.bargewicker.proofs.QuestionLaws.{command-over, command-taken
 pub refusing-numbers : (q : Question) (x : Refusal) → numbers-of q (refusing q x) ≡ number-of x ∷ []
 refusing-numbers (judge b) x = refl
 refusing-numbers (probe-in b l q) x = refl
-refusing-numbers (phase-from b l q) x = refl
+refusing-numbers (phase-from b l q out) x = refl
 refusing-numbers (command-in b l q m out) x = refl
 refusing-numbers (loop-with b present out) x = refl
 
@@ -60,10 +60,10 @@ module _ (b l : List ℕ) (q : ℕ) (fits : (rest : Class → Reply Answer) → 
       answered-by values (reply (probe-in b l q)) (give (probed (probe (class-of b) (children-of l) q)) []) (fits (λ c. give (probed (probe c (children-of l) q)) [])) []
       (0 ∷ probed-values (probed-as r)) [] (ap (λ (p : Node.Probed). 0 ∷ probed-values p) e) refl
 
-  pub phased-so : (r : Phase) → phase-as r ≡ phase (class-of b) (children-of l) q → Promised (phase-from b l q) (W.Given r) []
+  pub phased-so : (r : Phase) → phase-as r ≡ phase (class-of b) (children-of l) q → Promised (phase-from b l q out) (W.Given r) []
   unfolding reply values
   phased-so r e =
-      answered-by values (reply (phase-from b l q)) (give (phased (phase (class-of b) (children-of l) q)) []) (fits (λ c. give (phased (phase c (children-of l) q)) [])) []
+      answered-by values (reply (phase-from b l q out)) (give (phased (phase (class-of b) (children-of l) q)) []) (fits (λ c. give (phased (phase c (children-of l) q)) [])) []
       (0 ∷ phase-values (phase-as r)) [] (ap (λ (p : Node.Phase). 0 ∷ phase-values p) e) refl
 
   -- the command, over 63 or handled

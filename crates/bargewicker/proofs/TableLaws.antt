@@ -120,6 +120,6 @@ pub failed : (q : Question) → refused-number (reply q) ≡ first-failed (table
 unfolding reply table sheet-checks body-checks place-checks first-failed
 failed (judge b) = asked-failed b _ [] refl
 failed (probe-in b l q) = placed-failed b l q _ [] refl
-failed (phase-from b l q) = placed-failed b l q _ [] refl
+failed (phase-from b l q out) = placed-failed b l q _ [] refl
 failed (command-in b l q m out) = placed-failed b l q _ (command-checks (class-of b) l q m out) (told-failed commanded (reply-command (class-of b) l q m out) ∙ command-failed (class-of b) l q m out)
 failed (loop-with b present out) = asked-failed b _ (loop-checks (class-of b) present out) (told-failed looped (reply-loop (class-of b) present out) ∙ loop-failed (class-of b) present out)

@@ -16,7 +16,7 @@ use Rattle.readings.specs.Promise.{reading-as, came}
 pub told-apart : (q : Question) (r s : AnswerTo q) → numbers-of q r ≡ numbers-of q s → r ≡ s
 told-apart (judge b) r s e = same-judge r s e
 told-apart (probe-in b l q) r s e = same-probe r s e
-told-apart (phase-from b l q) r s e = same-phase-answer r s e
+told-apart (phase-from b l q out) r s e = same-phase-answer r s e
 told-apart (command-in b l q m out) r s e = same-command r s e
 told-apart (loop-with b present out) r s e = same-loop r s e
 

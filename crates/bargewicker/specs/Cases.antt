@@ -47,10 +47,10 @@ cases =
     -- 3: none present: free, 0 moves; free, 1 move
     asks (loop-with sheet-A 0 []) (0 ∷ 0 ∷ 0 ∷ []) [] ∷
     asks (loop-with sheet-B 0 []) (0 ∷ 0 ∷ 1 ∷ []) [] ∷
-    -- 4: settled by none, state 0, 1 move
-    asks (phase-from sheet-A hot 1) (0 ∷ 0 ∷ 0 ∷ 1 ∷ []) [] ∷
-    -- 5: loop, 2 moves, state 0
-    asks (phase-from sheet-A cold-hot 0) (0 ∷ 3 ∷ 0 ∷ 2 ∷ []) [] ∷
+    -- 4: settled by none, state 0, 1 move, no byte written
+    asks (phase-from sheet-A hot 1 five) (0 ∷ 0 ∷ 0 ∷ 1 ∷ 0 ∷ []) five ∷
+    -- 5: loop, 2 moves, state 0, no byte written and no room needed
+    asks (phase-from sheet-A cold-hot 0 []) (0 ∷ 3 ∷ 0 ∷ 2 ∷ 0 ∷ []) [] ∷
     -- 6: 00 00 04, state 1; 00 00 04 00 00 05, state 0
     asks (command-in sheet-C hot 0 9 seven) (0 ∷ 1 ∷ 1 ∷ 3 ∷ []) (0 ∷ 0 ∷ 4 ∷ 94 ∷ 95 ∷ 96 ∷ 97 ∷ []) ∷
     asks (command-in sheet-C cold 0 9 seven) (0 ∷ 1 ∷ 0 ∷ 6 ∷ []) (0 ∷ 0 ∷ 4 ∷ 0 ∷ 0 ∷ 5 ∷ 97 ∷ []) ∷
@@ -61,8 +61,8 @@ cases =
     asks (loop-with sheet-A 1 five) (15 ∷ []) five ∷
     asks (loop-with sheet-A 1 six) (0 ∷ 1 ∷ 3 ∷ 0 ∷ []) (0 ∷ 0 ∷ 0 ∷ 1 ∷ 95 ∷ 96 ∷ []) ∷
     -- 10: list 00 03: 10; state 2: 11; command 64: 12
-    asks (phase-from sheet-A (0 ∷ 3 ∷ []) 0) (10 ∷ []) [] ∷
-    asks (phase-from sheet-A hot 2) (11 ∷ []) [] ∷
+    asks (phase-from sheet-A (0 ∷ 3 ∷ []) 0 five) (10 ∷ []) five ∷
+    asks (phase-from sheet-A hot 2 five) (11 ∷ []) five ∷
     asks (command-in sheet-A hot 0 64 seven) (12 ∷ []) seven ∷ []
 
 -- what the rules give for the question of a case

@@ -5,21 +5,23 @@
 use Prim.Native.Nat.{ℕ, _*_, _<_, _≤_}
 use mathlib.Core.Path.{_≡_}
 use mathlib.Core.Bool.{true, false}
-use mathlib.Core.List.{List}
-use mathlib.Core.Logic.{_↔_}
+use mathlib.Core.List.{List, []}
+use mathlib.Core.Logic.{_↔_, _⊎_}
 use mathlib.Core.Option.{none, some}
 use lib.ListN.{length, getD}
 use Rattle.model.specs.Words.{maybe}
 use Rattle.model.specs.Tree.{Child, everyone, any-in, atom, Referrer, move-to, run, stay, When, Part, Class}
 use Rattle.model.specs.Guards.{holds}
 use Rattle.model.specs.Moves.{after, EndsAt, Ends}
-use Rattle.model.specs.Node.{own-states, state-of, Probed, nothing, found, Ending, by-none, by-stay, by-do, Phase, settled, loops, command-of, next}
-use Rattle.model.specs.Commands.{run-part, clause-for}
+use Rattle.model.specs.Running.{Sent, run-part, goes}
+use Rattle.model.specs.Node.{own-states, state-of, action-of, Probed, nothing, found, Ending, by-none, by-stay, by-do, next, sends, on-the-way}
+use Rattle.model.specs.Commands.{clause-for}
 use Rattle.model.specs.Refusals.{number-of}
-use Rattle.model.specs.Answers.{probed-as, phase-as}
+use Rattle.model.specs.Answers.{probed-as, ending-as}
 use Rattle.model.specs.Replies.{written}
 use Rattle.model.specs.declared.Refusal.{Refusal}
 use Rattle.model.specs.declared.Refusal.the-variants.{Room}
+use Rattle.model.specs.declared.Phase.the-variants.{Settled, Loops as Looping}
 use Rattle.model.specs.declared.Handling.the-variants.{Ignored, Handled}
 use Rattle.model.specs.declared.Loops.the-variants.{Loop, Free}
 use Rattle.model.specs.declared.JudgeAnswer.{JudgeAnswer}
@@ -92,31 +94,45 @@ abbrev pub ProbeRight : Class → List Child → ℕ → ProbeAnswer → Type 0
 ProbeRight c ks q (P.Given p) = ProbedRight c ks q (probed-as p)
 ProbeRight c ks q (P.Refused x) = ⊥
 
--- a phase ends in state s where no clause is true, on STAY, or on DO, which names the command of its action clause
+-- a move from state q to t is made: the first true clause is a MOVE_TO to t, or a DO whose clause, run with these children, reaches a
+-- move_to to t; t may be q itself
+abbrev pub MoveMade : Class → List Child → ℕ → ℕ → Type 0
+MoveMade c ks q t =
+    ((i : ℕ) × First c ks q i (move-to t)) ⊎ ((i : ℕ) × (a : ℕ) × First c ks q i (run a) × (goes (action-of c q a .body) ks ≡ some t))
+
+-- what is sent in state q: where the first true clause is a DO, what its clause sends; else nothing
+pub record SendsRight (c : Class) (ks : List Child) (q : ℕ) : Type 0 where
+  pub by-a-do : (i a : ℕ) → First c ks q i (run a) → sends c ks q ≡ run-part (action-of c q a .body) ks .sent
+  pub else-nothing : ((i a : ℕ) → First c ks q i (run a) → ⊥) → sends c ks q ≡ []
+
+-- a phase ends in state s where no clause is true, on STAY, or on DO, whose clause reaches no move_to and whose command is named
 abbrev pub Settles : Class → List Child → ℕ → Ending → Type 0
 Settles c ks s by-none = NoneTrue c ks s
 Settles c ks s by-stay = (i : ℕ) × First c ks s i stay
 Settles c ks s (by-do m) =
-    (i : ℕ) × (a : ℕ) × First c ks s i (run a) × (a < length (state-of c s .actions)) × (command-of c s a ≡ m)
+    (i : ℕ) × (a : ℕ) × First c ks s i (run a) × (a < length (state-of c s .actions)) × (action-of c s a .command ≡ m) × (goes (action-of c s a .body) ks ≡ none)
 
--- the when phase: settled, where m moves lead to s and there it ends; or loop, where no number of moves ends it,
--- with S moves and the state after them. A move is made exactly where the first true clause is a MOVE_TO, to its
--- target: `moving` below
-abbrev pub PhasedRight : Class → List Child → ℕ → Phase → Type 0
-PhasedRight c ks q (settled e s m) = EndsAt (next c ks) q m s × Settles c ks s e
-PhasedRight c ks q (loops s m) =
-    (Ends (next c ks) q → ⊥) × (m ≡ own-states c) × (after (next c ks) m q ≡ some s)
+-- commands are written, n bytes, three for each, at the front of the buffer
+pub record Wrote (sent : List Sent) (n : ℕ) (out final : List ℕ) : Type 0 where
+  pub number : n ≡ 3 * length sent
+  pub room : n ≤ length out
+  pub buffer : final ≡ written (sent-bytes sent) out
 
-abbrev pub PhaseRight : Class → List Child → ℕ → PhaseAnswer → Type 0
-PhaseRight c ks q (W.Given p) = PhasedRight c ks q (phase-as p)
-PhaseRight c ks q (W.Refused x) = ⊥
+-- the when phase: settled, where m moves lead to s and there it ends, with what was sent on the way written, in order, the closing DO's
+-- commands too; or loop, where no number of moves ends it, with S moves and the state after them, and nothing written; or 15, where it
+-- settles and there is no room for what was sent. When a move is made is `moving` below, what is sent `sending`
+abbrev pub PhaseRight : Class → List Child → ℕ → List ℕ → List ℕ → PhaseAnswer → Type 0
+PhaseRight c ks q out final (W.Given (Settled e s m n)) =
+    EndsAt (next c ks) q m (s .0) × Settles c ks (s .0) (ending-as e) × Wrote (on-the-way c ks m q) n out final
+PhaseRight c ks q out final (W.Given (Looping s m)) =
+    (Ends (next c ks) q → ⊥) × (m ≡ own-states c) × (after (next c ks) m q ≡ some (s .0)) × (final ≡ out)
+PhaseRight c ks q out final (W.Refused x) =
+    (x ≡ Room) × (s : ℕ) × (m : ℕ) × EndsAt (next c ks) q m s × (length out < 3 * length (on-the-way c ks m q)) × (final ≡ out)
 
--- the clause p runs: in state q it leaves the state s and sends what is written, three bytes for each command
+-- the clause p runs: in state q it leaves the state s and sends what is written
 pub record Runs (p : Part) (ks : List Child) (q s n : ℕ) (out final : List ℕ) : Type 0 where
   pub state : s ≡ maybe (run-part p ks .moved) (λ _. q) (λ t. t)
-  pub number : n ≡ 3 * length (run-part p ks .sent)
-  pub room : n ≤ length out
-  pub buffer : final ≡ written (sent-bytes (run-part p ks .sent)) out
+  pub wrote : Wrote (run-part p ks .sent) n out final
 
 -- the command: ignored without a clause for it; else its clause runs, if there is room for what it sends
 abbrev pub CommandRight : Class → List Child → ℕ → ℕ → List ℕ → List ℕ → CommandAnswer → Type 0
@@ -166,10 +182,10 @@ pub record Demands : Type 1 where
   -- 2: probing, the when phase and the handling of a command, for every accepted sheet, state, child list and command
   pub probing : (b l : List ℕ) (q : ℕ) → Asked b l q → (r : ProbeAnswer) (final : List ℕ)
       → Promised (probe-in b l q) r final → ProbeRight (class-of b) (children-of l) q r
-  pub phasing : (b l : List ℕ) (q : ℕ) → Asked b l q → (r : PhaseAnswer) (final : List ℕ)
-      → Promised (phase-from b l q) r final → PhaseRight (class-of b) (children-of l) q r
-  pub moving : (c : Class) (ks : List Child) (q t : ℕ)
-      → (next c ks q ≡ some t) ↔ ((i : ℕ) × First c ks q i (move-to t))
+  pub phasing : (b l : List ℕ) (q : ℕ) (out : List ℕ) → Asked b l q → (r : PhaseAnswer) (final : List ℕ)
+      → Promised (phase-from b l q out) r final → PhaseRight (class-of b) (children-of l) q out final r
+  pub moving : (c : Class) (ks : List Child) (q t : ℕ) → (next c ks q ≡ some t) ↔ MoveMade c ks q t
+  pub sending : (c : Class) (ks : List Child) (q : ℕ) → SendsRight c ks q
   pub commanding : (b l : List ℕ) (q m : ℕ) (out : List ℕ) → Asked b l q → m ≤ 63
       → (r : CommandAnswer) (final : List ℕ) → Promised (command-in b l q m out) r final
       → CommandRight (class-of b) (children-of l) q m out final r

@@ -2,16 +2,17 @@
 -- Assumes nothing.
 use Prim.Native.Nat.{ℕ}
 use mathlib.Core.List.{List, []}
-use Rattle.model.specs.Values.{probed-values, phase-values}
+use Rattle.model.specs.Values.{probed-values}
 use Rattle.model.specs.Replies.{numbers}
 use Rattle.commands.specs.Handling.{handling-values}
+use Rattle.phases.specs.Phasing.{phasing-values}
 use Rattle.loops.specs.LoopQuestion.{loops-values}
 use Rattle.bargewicker.specs.Questions.{Question, Answer, accepted, probed, phased, commanded, looped, reply}
 
 unfoldable pub values : Answer → List ℕ
 values accepted = []
 values (probed p) = probed-values p
-values (phased p) = phase-values p
+values (phased p) = phasing-values p
 values (commanded h) = handling-values h
 values (looped a) = loops-values a
 

@@ -22,7 +22,7 @@ use Rattle.bargewicker.specs.Numbers.{values}
 abbrev pub AnswerTo : Question → Type 0
 AnswerTo (judge b) = JudgeAnswer
 AnswerTo (probe-in b l q) = ProbeAnswer
-AnswerTo (phase-from b l q) = PhaseAnswer
+AnswerTo (phase-from b l q out) = PhaseAnswer
 AnswerTo (command-in b l q m out) = CommandAnswer
 AnswerTo (loop-with b present out) = LoopAnswer
 
@@ -30,7 +30,7 @@ AnswerTo (loop-with b present out) = LoopAnswer
 abbrev pub refusing : (q : Question) → Refusal → AnswerTo q
 refusing (judge b) x = J.Refused x
 refusing (probe-in b l q) x = P.Refused x
-refusing (phase-from b l q) x = W.Refused x
+refusing (phase-from b l q out) x = W.Refused x
 refusing (command-in b l q m out) x = C.Refused x
 refusing (loop-with b present out) x = L.Refused x
 
@@ -38,7 +38,7 @@ refusing (loop-with b present out) x = L.Refused x
 abbrev pub numbers-of : (q : Question) → AnswerTo q → List ℕ
 numbers-of (judge b) r = judge-numbers r
 numbers-of (probe-in b l q) r = probe-numbers r
-numbers-of (phase-from b l q) r = phase-numbers r
+numbers-of (phase-from b l q out) r = phase-numbers r
 numbers-of (command-in b l q m out) r = command-numbers r
 numbers-of (loop-with b present out) r = loop-numbers r
 

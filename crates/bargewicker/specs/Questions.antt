@@ -10,6 +10,7 @@ use Rattle.model.specs.Replies.{Reply, give, check, told-as}
 use Rattle.sheet.specs.Asked.{on-sheet}
 use Rattle.children.specs.ChildList.{children-of, list-right}
 use Rattle.commands.specs.Handling.{reply-handling}
+use Rattle.phases.specs.Phasing.{reply-phase}
 use Rattle.configurations.specs.LoopAnswer.{Loops}
 use Rattle.loops.specs.LoopQuestion.{reply-loop}
 
@@ -17,7 +18,7 @@ use Rattle.loops.specs.LoopQuestion.{reply-loop}
 pub data Question : Type 0 where
   judge : List ℕ → Question
   probe-in : List ℕ → List ℕ → ℕ → Question
-  phase-from : List ℕ → List ℕ → ℕ → Question
+  phase-from : List ℕ → List ℕ → ℕ → List ℕ → Question
   command-in : List ℕ → List ℕ → ℕ → ℕ → List ℕ → Question
   loop-with : List ℕ → ℕ → List ℕ → Question
 
@@ -39,14 +40,14 @@ reply-command c l q m out = check (leb m 63) 12 λ _. reply-handling (command c 
 unfoldable pub reply : Question → Reply Answer
 reply (judge b) = on-sheet b λ c. give accepted []
 reply (probe-in b l q) = placed b l q λ c. give (probed (probe c (children-of l) q)) []
-reply (phase-from b l q) = placed b l q λ c. give (phased (phase c (children-of l) q)) []
+reply (phase-from b l q out) = placed b l q λ c. told-as phased (reply-phase (phase c (children-of l) q) out)
 reply (command-in b l q m out) = placed b l q λ c. told-as commanded (reply-command c l q m out)
 reply (loop-with b present out) = on-sheet b λ c. told-as looped (reply-loop c present out)
 
--- the lent buffer before the call; none is lent but for a command and the loop question
+-- the lent buffer before the call; none is lent to the judge and the probe
 abbrev pub lent : Question → List ℕ
 lent (judge b) = []
 lent (probe-in b l q) = []
-lent (phase-from b l q) = []
+lent (phase-from b l q out) = out
 lent (command-in b l q m out) = out
 lent (loop-with b present out) = out

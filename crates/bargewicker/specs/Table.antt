@@ -8,8 +8,9 @@ use lib.Dec.{leb, ltb}
 use lib.ListN.{length}
 use Rattle.model.specs.Words.{choose}
 use Rattle.model.specs.Tree.{Class}
-use Rattle.model.specs.Node.{own-states}
-use Rattle.model.specs.Commands.{Sent, Handling, handled, ignored, command}
+use Rattle.model.specs.Running.{Sent}
+use Rattle.model.specs.Node.{own-states, phase, sent-of}
+use Rattle.model.specs.Commands.{Handling, handled, ignored, command}
 use Rattle.records.specs.Bytes.{in-fours, in-eights}
 use Rattle.bodies.specs.BodyRules.{classes-right, counts-right, records-right, guards-right, targets-right, actions-right, statements-right}
 use Rattle.sheet.specs.Contents.{Bodies, bodies, length-right, contents-right}
@@ -66,6 +67,12 @@ place-checks c l q =
     -- given when: asked state not below S
     rule 11 (ltb q (own-states c)) ∷ []
 
+-- the room for what a phase sends: a phase that loops sends nothing
+unfoldable pub phase-checks : Class → List ℕ → ℕ → List ℕ → List Check
+phase-checks c l q out =
+    -- given when: buffer too short: under the room needed, three bytes for each command that a settled phase sent
+    rule 15 (leb (3 * length (sent-of (phase c (children-of l) q))) (length out)) ∷ []
+
 -- the commands that a handling sends
 abbrev pub sent-by : Handling → List Sent
 sent-by (handled sent q) = sent
@@ -93,6 +100,6 @@ loop-checks c present out =
 unfoldable pub table : Question → List Check
 table (judge b) = sheet-checks b
 table (probe-in b l q) = sheet-checks b ++ place-checks (class-of b) l q
-table (phase-from b l q) = sheet-checks b ++ place-checks (class-of b) l q
+table (phase-from b l q out) = sheet-checks b ++ (place-checks (class-of b) l q ++ phase-checks (class-of b) l q out)
 table (command-in b l q m out) = sheet-checks b ++ (place-checks (class-of b) l q ++ command-checks (class-of b) l q m out)
 table (loop-with b present out) = sheet-checks b ++ loop-checks (class-of b) present out

@@ -49,13 +49,13 @@ pub fn probe(sheet: &[u8], children: &[u8], state: u8) -> ProbeAnswer
     }
 }
 
-// Where does the when phase from the state settle with these children, or does it loop?
-pub fn when_phase(sheet: &[u8], children: &[u8], state: u8) -> PhaseAnswer
-    ensures { λ r. ⌜ Promised (phase-from (now (sheet .entry)) (now (children .entry)) state) r [] ⌝ }
+// Where does the when phase from the state settle with these children, and what do its DOs send on the way, or does it loop?
+pub fn when_phase(sheet: &[u8], children: &[u8], state: u8, out: &mut [u8]) -> PhaseAnswer
+    ensures { λ r. ⌜ Promised (phase-from (now (sheet .entry)) (now (children .entry)) state (now (out .entry))) r (now (out .exit)) ⌝ }
 {
     let verdict = sheet::judging::judge(sheet);
     match verdict {
-        Verdict::Accepted(p) => phase_from(sheet, p, children, state),
+        Verdict::Accepted(p) => phase_from(sheet, p, children, state, out),
         Verdict::Refused(x) => PhaseAnswer::Refused(x),
     }
 }
@@ -136,16 +136,16 @@ fn probe_in(sheet: &[u8], p: Places, children: &[u8], state: u8) -> ProbeAnswer
     ProbeAnswer::Given(node::probing::probe(sheet, p, OwnState(state), occupy(children)))
 }
 
-// The when phase.
-fn phase_from(sheet: &[u8], p: Places, children: &[u8], state: u8) -> PhaseAnswer
+// The when phase: what it comes to on the children of the list.
+fn phase_from(sheet: &[u8], p: Places, children: &[u8], state: u8, out: &mut [u8]) -> PhaseAnswer
     requires { ⌜ Stands (now sheet) p ⌝ }
-    ensures { λ r. ⌜ Promised (phase-from (now (sheet .entry)) (now (children .entry)) state) r [] ⌝ }
+    ensures { λ r. ⌜ Promised (phase-from (now (sheet .entry)) (now (children .entry)) state (now (out .entry))) r (now (out .exit)) ⌝ }
 {
     let placing = place(sheet, p, children, state);
     if let Placing::Refused(x) = placing {
         return PhaseAnswer::Refused(x);
     }
-    PhaseAnswer::Given(node::phases::when_phase(sheet, p, OwnState(state), occupy(children)))
+    phases::when_phase(sheet, p, children, occupy(children), OwnState(state), out)
 }
 
 // The command: 12, then what handling it comes to.

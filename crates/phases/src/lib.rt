@@ -114,14 +114,7 @@ pub fn turn_from(
 }
 
 // The phase from state q, with what it sends written from the buffer's front on, as far as it reaches.
-fn walk(
-    sheet: &[u8],
-    p: Places,
-    list: &[u8],
-    sets: [u32; 8],
-    q: OwnState,
-    out: &mut [u8],
-) -> Phase
+fn walk(sheet: &[u8], p: Places, list: &[u8], sets: [u32; 8], q: OwnState, out: &mut [u8]) -> Phase
     requires { ⌜ Stands (now sheet) p × Runnable sets (now list) ⌝ }
     requires { ⌜ q .0 < in-fours (body (now sheet) 1) ⌝ }
     ensures { λ r. ⌜ Walks (now (sheet .entry)) (now (list .entry)) (q .0) (now (out .entry)) (now (out .exit)) r ⌝ }
