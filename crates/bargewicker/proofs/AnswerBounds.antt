@@ -9,9 +9,10 @@ use mathlib.Core.Option.{Option, none, some}
 use lib.ListN.{length, getD}
 use Rattle.model.specs.Words.{maybe}
 use Rattle.model.specs.Tree.{Child, Referrer, move-to, run, stay, When, Class, Part, Action, no-action, atom, any-in, everyone}
-use Rattle.model.specs.Node.{own-states, state-of, found, probe, by-do, turn, stops, next, command-of}
+use Rattle.model.specs.Running.{Sent, run-part}
+use Rattle.model.specs.Node.{own-states, state-of, action-of, found, probe, by-do, turn, stops, next}
 use Rattle.model.specs.Moves.{after}
-use Rattle.model.specs.Commands.{Handling, handled, ignored, handled-by, command, run-part, clause-for}
+use Rattle.model.specs.Commands.{Handling, handled, ignored, handled-by, command, clause-for}
 use Rattle.model.specs.Sound.{ReferrerRight, part-within}
 use Rattle.model.proofs.Moves.{after-within}
 use Rattle.model.proofs.NodeLaws.{getD-mem, probe-found, turn-runs, next-within}
@@ -72,17 +73,17 @@ module _ (b : List ℕ) (h : Bytes b) (a : Accepted b) (ks : List Child) where
       ((omega arith), subst Small (sym (ap (λ (w : When). w .referrer) f) ∙ H .referrer) (referrer-small _ _ (body-bytes b h 2 _)))
 
   -- the command of a state's action clause is a byte
-  command-small : (q n : ℕ) → n < length (state-of c q .actions) → command-of c q n < 256
+  command-small : (q n : ℕ) → n < length (state-of c q .actions) → action-of c q n .command < 256
   unfolding class-of bodies action-in
   command-small q n l =
       let (j, k, m, f) = mem-actions (bodies b) q (getD (state-of c q .actions) n no-action) (getD-mem (state-of c q .actions) n no-action l) in
       subst (λ (x : Action). x .command < 256) (sym f) (body-bytes b h 4 _)
 
   -- so is that of a DO
-  pub do-small : (q m : ℕ) → turn c ks q ≡ stops (by-do m) → m < 256
+  pub do-small : (q m : ℕ) (sent : List Sent) → turn c ks q ≡ stops (by-do m) sent → m < 256
   unfolding turn
-  do-small q m e =
-      let (i, n, f, g) = turn-runs c q m (probe c ks q) e in
+  do-small q m sent e =
+      let (i, n, f, g, z) = turn-runs c ks q m (probe c ks q) sent e in
       let H = probe-found c ks past q i (run n) f in
       let w = getD (state-of c q .whens) i past in
       let l : n < length (state-of c q .actions) = subst (ReferrerRight c q) (H .referrer) (sound b h a .referrers q w (getD-mem (state-of c q .whens) i past (H .listed))) in

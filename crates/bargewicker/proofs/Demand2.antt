@@ -10,14 +10,18 @@ use lib.ListN.{length, drop}
 use borrow.Author.Tests.{lt-ltb}
 use Rattle.model.specs.Words.{maybe}
 use Rattle.model.specs.Tree.{Child, Referrer, move-to, run, stay, Part, Class}
-use Rattle.model.specs.Node.{own-states, state-of, Probed, nothing, found, probe, Ending, by-none, by-stay, by-do, stops, command-of, turn-for, turn, moved, next, Phase, settled, loops, phase}
-use Rattle.model.specs.Commands.{Sent, handled, ignored, run-part, clause-for, command}
+use Rattle.model.specs.Running.{Sent, run-part}
+use Rattle.model.specs.Node.{own-states, state-of, Probed, nothing, found, probe, Ending, by-none, by-stay, by-do, stops, turn-for, turn, next, sends, Phase, settled, loops, phase}
+use Rattle.model.specs.Commands.{handled, ignored, clause-for, command}
 use Rattle.model.specs.Sound.{Sound, ReferrerRight}
-use Rattle.model.specs.Values.{probed-values, phase-values}
-use Rattle.model.specs.Answers.{probed-as, phase-as, probe-numbers, phase-numbers}
+use Rattle.model.specs.Values.{probed-values}
+use Rattle.model.specs.Answers.{probed-as, ending-as, probe-numbers}
 use Rattle.model.specs.Replies.{Reply, give, numbers, written}
 use Rattle.model.specs.declared.OwnState.{OwnState}
 use Rattle.model.specs.declared.Refusal.the-variants.{Room}
+use Rattle.model.specs.declared.Ending as Code
+use Rattle.model.specs.declared.Ending.the-variants.{ByNone, ByStay, ByDo}
+use Rattle.model.specs.declared.Phase.the-variants.{Settled, Loops as Looping}
 use Rattle.model.specs.declared.Handling.the-variants.{Ignored, Handled}
 use Rattle.model.specs.declared.ProbeAnswer.{ProbeAnswer}
 use Rattle.model.specs.declared.ProbeAnswer.the-variants as P
@@ -26,26 +30,40 @@ use Rattle.model.specs.declared.PhaseAnswer.the-variants as W
 use Rattle.model.specs.declared.CommandAnswer.{CommandAnswer}
 use Rattle.model.specs.declared.CommandAnswer.the-variants as C
 use Rattle.model.proofs.Words.{clash, true-not-false, lt-or-le}
-use Rattle.model.proofs.NodeLaws.{getD-mem, probe-found, probe-nothing, phase-settled, phase-loops, loops-never}
+use Rattle.model.proofs.NodeLaws.{getD-mem, probe-found, probe-nothing, led, next-by, stops-none, stops-stay, turn-runs, sent-by, sends-is, PhaseSettled, phase-settled, phase-loops, loops-never}
 use Rattle.model.proofs.RefusalLaws.{not-zero}
-use Rattle.model.proofs.AnswerLaws.{probed-told, phase-told}
+use Rattle.model.proofs.AnswerLaws.{probed-told}
 use Rattle.sheet.specs.Reading.{class-of}
 use Rattle.sheet.proofs.Sound.{sound}
 use Rattle.children.specs.ChildList.{children-of, sent-bytes}
 use Rattle.children.proofs.ChildListLaws.{three-each}
 use Rattle.commands.proofs.HandlingLaws.{HandledSo, ignored-so, handled-so, short-so}
-use Rattle.bargewicker.specs.Questions.{Answer, probed, phased, probe-in, phase-from, command-in, placed, reply}
+use Rattle.phases.specs.Phasing.{bytes-of-phase, phasing-values}
+use Rattle.phases.proofs.PhasingLaws.{PhasedSo, short-so as phase-short, given-so}
+use Rattle.bargewicker.specs.Questions.{Answer, probed, probe-in, phase-from, command-in, placed, reply}
 use Rattle.bargewicker.specs.Numbers.{values}
 use Rattle.bargewicker.specs.Placing.{placed-refusal}
 use Rattle.bargewicker.specs.Promises.{Promised}
-use Rattle.bargewicker.specs.Demands.{Asked, no-clause, clause, First, NoneTrue, ProbedRight, ProbeRight, Settles, PhasedRight, PhaseRight, CommandRight}
+use Rattle.bargewicker.specs.Demands.{Asked, no-clause, clause, First, NoneTrue, ProbedRight, ProbeRight, MoveMade, SendsRight, Settles, PhaseRight, CommandRight}
 use Rattle.bargewicker.proofs.QuestionLaws.{is-placed}
-use Rattle.bargewicker.proofs.PromiseLaws.{commanded-so}
+use Rattle.bargewicker.proofs.PromiseLaws.{phased-so, commanded-so}
 use Rattle.bargewicker.proofs.Unique.{unique}
 
 -- an own state's number as the code has it
 own : ℕ → OwnState
 own n = record { 0 = n }
+
+-- by what a phase settled, as the code has it
+ending-of : Ending → Code.Ending
+ending-of by-none = ByNone
+ending-of by-stay = ByStay
+ending-of (by-do m) = ByDo m
+
+ending-told : (e : Ending) → ending-as (ending-of e) ≡ e
+unfolding ending-of
+ending-told by-none = refl
+ending-told by-stay = refl
+ending-told (by-do m) = refl
 
 module _ (c : Class) (ks : List Child) where
   -- the probe finds a clause exactly if it is the first that is true
@@ -72,40 +90,52 @@ module _ (c : Class) (ks : List Child) where
               let g : First c ks q i y = subst (λ (n : ℕ). First c ks q n y) z G in
               e ∙ ap (λ (n : ℕ). found n y) z ∙ ap (found i) (sym (g .referrer) ∙ F .referrer)
 
-  -- a move is made exactly where the first true clause is a MOVE_TO
-  pub moves-first : (q t : ℕ) → (next c ks q ≡ some t) ↔ ((i : ℕ) × First c ks q i (move-to t))
-  unfolding next turn turn-for
-  moves-first q t = (go (probe c ks q) refl, λ (i, F). ap (λ (p : Probed). moved (turn-for c q p)) (found-first q i (move-to t) F))
+  -- a move is made exactly where the first true clause is a MOVE_TO, or a DO whose clause reaches a move_to
+  pub moves-first : (q t : ℕ) → (next c ks q ≡ some t) ↔ MoveMade c ks q t
+  moves-first q t = (λ e. go (probe c ks q) refl (sym (next-by c ks q) ∙ e), back)
     where
-      go : (p : Probed) → probe c ks q ≡ p → moved (turn-for c q p) ≡ some t → (i : ℕ) × First c ks q i (move-to t)
+      go : (p : Probed) → probe c ks q ≡ p → led c ks q p ≡ some t → MoveMade c ks q t
       go nothing e f = absurd (clash (cc))
-      go (found i (move-to u)) e f = let z : u ≡ t = cc in (i, first-found q i (move-to t) (e ∙ ap (λ (v : ℕ). found i (move-to v)) z))
-      go (found i (run a)) e f = absurd (clash (cc))
+      go (found i (move-to u)) e f = let z : u ≡ t = cc in inl (i, first-found q i (move-to t) (e ∙ ap (λ (v : ℕ). found i (move-to v)) z))
+      go (found i (run a)) e f = inr (i, a, first-found q i (run a) e, f)
       go (found i stay) e f = absurd (clash (cc))
 
-  -- a turn that stops says why
-  stops-so : Sound c → (s : ℕ) (e : Ending) → turn c ks s ≡ stops e → Settles c ks s e
-  unfolding turn turn-for
-  stops-so sd s e h = go (probe c ks s) refl h
-    where
-      go : (p : Probed) → probe c ks s ≡ p → turn-for c s p ≡ stops e → Settles c ks s e
-      go nothing f g = let z : by-none ≡ e = cc in subst (Settles c ks s) z (none-found s f)
-      go (found i (move-to t)) f g = absurd (clash (cc))
-      go (found i (run a)) f g =
-          let z : by-do (command-of c s a) ≡ e = cc in
-          let F = first-found s i (run a) f in
-          let w = sd .referrers s (clause c s i) (getD-mem (state-of c s .whens) i no-clause (F .listed)) in
-          subst (Settles c ks s) z (i, a, F, subst (ReferrerRight c s) (F .referrer) w, refl)
-      go (found i stay) f g = let z : by-stay ≡ e = cc in subst (Settles c ks s) z (i, first-found s i stay f)
+      back : MoveMade c ks q t → next c ks q ≡ some t
+      back (inl (i, F)) = next-by c ks q ∙ ap (led c ks q) (found-first q i (move-to t) F)
+      back (inr (i, a, F, g)) = next-by c ks q ∙ ap (led c ks q) (found-first q i (run a) F) ∙ g
 
-  -- what the probe and the when phase give is right
+  -- what is sent is what the clause of a DO sends
+  pub sends-first : (q : ℕ) → SendsRight c ks q
+  sends-first q =
+      record {
+        by-a-do = λ i a F. sends-is c ks q ∙ ap (sent-by c ks q) (found-first q i (run a) F);
+        else-nothing = λ no. sends-is c ks q ∙ silent no (probe c ks q) refl;
+      }
+    where
+      silent : ((i a : ℕ) → First c ks q i (run a) → ⊥) → (p : Probed) → probe c ks q ≡ p → sent-by c ks q p ≡ []
+      silent no nothing e = refl
+      silent no (found i (move-to t)) e = refl
+      silent no (found i (run a)) e = absurd (no i a (first-found q i (run a) e))
+      silent no (found i stay) e = refl
+
+  -- a turn that stops says why
+  stops-so : Sound c → (s : ℕ) (e : Ending) (sent : List Sent) → turn c ks s ≡ stops e sent → Settles c ks s e
+  unfolding turn
+  stops-so sd s e sent h = go e (probe c ks s) refl h
+    where
+      go : (e : Ending) (p : Probed) → probe c ks s ≡ p → turn-for c ks s p ≡ stops e sent → Settles c ks s e
+      go by-none p f g = none-found s (f ∙ stops-none c ks s p sent g)
+      go by-stay p f g = let (i, z) = stops-stay c ks s p sent g in (i, first-found s i stay (f ∙ z))
+      go (by-do m) p f g =
+          let (i, a, z, named, stays) = turn-runs c ks s m p sent g in
+          let F = first-found s i (run a) (f ∙ z) in
+          let w = sd .referrers s (clause c s i) (getD-mem (state-of c s .whens) i no-clause (F .listed)) in
+          (i, a, F, subst (ReferrerRight c s) (F .referrer) w, named, stays)
+
+  -- what the probe gives is right
   probed-right : (q : ℕ) (p : Probed) → probe c ks q ≡ p → ProbedRight c ks q p
   probed-right q nothing e = none-found q e
   probed-right q (found i x) e = first-found q i x e
-
-  phased-right : Sound c → (q : ℕ) → q < own-states c → (p : Phase) → phase c ks q ≡ p → PhasedRight c ks q p
-  phased-right sd q low (settled d s m) e = let (u, E, t) = phase-settled c ks q d s m e in (E, stops-so sd s d t)
-  phased-right sd q low (loops s m) e = let (u, t) = phase-loops c ks q s m e in (loops-never c ks sd q low s m e, u, (rw u t))
 
 -- what the clauses of a state make of a command
 command-none : (c : Class) (ks : List Child) (q m : ℕ) → clause-for m (state-of c q .actions) ≡ none → command c ks q m ≡ ignored q
@@ -139,13 +169,41 @@ module _ (b l : List ℕ) (q : ℕ) (a : Asked b l q) where
       go (P.Refused x) e = not-zero x (cc)
       go (P.Given p) e = subst (ProbedRight c ks q) (sym (probed-told (probed-as p) (probe c ks q) (cc))) (probed-right c ks q (probe c ks q) refl)
 
-  pub phase-right : (r : PhaseAnswer) (final : List ℕ) → Promised (phase-from b l q out) r final → PhaseRight c ks q r
-  unfolding reply values
-  phase-right r final h = go r (h .numbers-are ∙ ap (numbers values) (fits (λ c. give (phased (phase c ks q)) [])))
-    where
-      go : (r : PhaseAnswer) → phase-numbers r ≡ 0 ∷ phase-values (phase c ks q) → PhaseRight c ks q r
-      go (W.Refused x) e = not-zero x (cc)
-      go (W.Given p) e = subst (PhasedRight c ks q) (sym (phase-told (phase-as p) (phase c ks q) (cc))) (phased-right c ks (sound b (a .bytes) (a .accepted)) q (a .state) (phase c ks q) refl)
+  module _ (out : List ℕ) (r : PhaseAnswer) (final : List ℕ) (h : Promised (phase-from b l q out) r final) where
+    -- the answer and the buffer are those that the rules give
+    told-phase : (s : PhaseAnswer) (after : List ℕ) → PhasedSo (phase c ks q) out after s
+        → (final ≡ after → PhaseRight c ks q out final s) → PhaseRight c ks q out final r
+    told-phase s after g f =
+        let (e, k) = unique .sheets (phase-from b l q out) r s final after h (phased-so b l q fits out s after g) in
+        subst (PhaseRight c ks q out final) (sym e) (f k)
+
+    pub phase-right : PhaseRight c ks q out final r
+    unfolding own bytes-of-phase phasing-values sent-bytes
+    phase-right = go (phase c ks q) refl
+      where
+        sd : Sound c
+        sd = sound b (a .bytes) (a .accepted)
+
+        go : (p : Phase) → phase c ks q ≡ p → PhaseRight c ks q out final r
+        go (loops s m) e =
+            let (u, t) = phase-loops c ks q s m e in
+            told-phase (W.Given (Looping (own s) m)) out (rw e (given-so (loops s m) out out (Looping (own s) m) refl (omega arith) refl))
+            λ k. (loops-never c ks sd q (a .state) s m e, u, (rw u t), k)
+        go (settled d s m sent) e = by (lt-or-le (length out) (3 * length sent))
+          where
+            S : PhaseSettled c ks q d s m sent
+            S = phase-settled c ks q d s m sent e
+
+            by : (length out < 3 * length sent) ⊎ (3 * length sent ≤ length out) → PhaseRight c ks q out final r
+            by (inl short) =
+                let n = three-each sent in
+                told-phase (W.Refused Room) out (rw e (phase-short (settled d s m sent) out out (let w : length out < length (sent-bytes sent) = omega arith in w) refl))
+                λ k. (refl, s, m, S .there, (rw (← S .sent-all) short), k)
+            by (inr room) =
+                let n = three-each sent in
+                told-phase (W.Given (Settled (ending-of d) (own s) m (3 * length sent))) (written (sent-bytes sent) out)
+                (rw e (given-so (settled d s m sent) out (written (sent-bytes sent) out) (Settled (ending-of d) (own s) m (3 * length sent)) (rw (ending-told d, n)) (let w : length (sent-bytes sent) ≤ length out = omega arith in w) refl))
+                λ k. (S .there, (rw (ending-told d) (stops-so c ks sd s d (sends c ks s) (S .by))), record { number = rw (← S .sent-all); room = room; buffer = rw (← S .sent-all) k })
 
   module _ (m : ℕ) (out : List ℕ) (small : m ≤ 63) (r : CommandAnswer) (final : List ℕ) (h : Promised (command-in b l q m out) r final) where
     -- the answer and the buffer are those that the rules give
@@ -182,4 +240,4 @@ module _ (b l : List ℕ) (q : ℕ) (a : Asked b l q) where
             by (inr room) =
                 told-command (C.Given (Handled (own to) (3 * length sent))) (written (sent-bytes sent) out)
                 (handled-so (command c ks q m) sent to runs out (written (sent-bytes sent) out) (own to) refl (3 * length sent) (sym (three-each sent)) room (ap (λ (n : ℕ). sent-bytes sent ++ drop n out) (three-each sent)))
-                λ k. (p, e, record { state = refl; number = refl; room = room; buffer = k })
+                λ k. (p, e, record { state = refl; wrote = record { number = refl; room = room; buffer = k } })

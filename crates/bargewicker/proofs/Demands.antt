@@ -6,7 +6,7 @@ use Rattle.readings.proofs.ReadLaws.{reads}
 use Rattle.readings.specs.Promise.{came}
 use Rattle.bargewicker.specs.Demands.{Demands}
 use Rattle.bargewicker.proofs.Demand1.{demand-1, accepted-exactly}
-use Rattle.bargewicker.proofs.Demand2.{probe-right, phase-right, command-right, moves-first}
+use Rattle.bargewicker.proofs.Demand2.{probe-right, phase-right, command-right, moves-first, sends-first}
 use Rattle.bargewicker.proofs.Demand3.{demand-3}
 
 pub demands : Demands
@@ -17,8 +17,9 @@ demands =
       reading = λ q r sheet table a. reads .rows q (came r sheet table) a;
       read = λ q length states sheet table b a. reads .right q (came (R.Read length states) sheet table) b a length states refl;
       probing = probe-right;
-      phasing = phase-right;
+      phasing = λ b l q out a. phase-right b l q a out;
       commanding = λ b l q m out a small. command-right b l q a m out small;
       moving = moves-first;
+      sending = sends-first;
       demand3 = demand-3;
     }

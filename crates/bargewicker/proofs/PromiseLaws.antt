@@ -6,18 +6,17 @@ use mathlib.Core.List.{List, [], _∷_}
 use Rattle.model.specs.Tree.{Class}
 use Rattle.model.specs.Node.{probe, phase}
 use Rattle.model.specs.Refusals.{number-of}
-use Rattle.model.specs.Values.{probed-values, phase-values}
-use Rattle.model.specs.Answers.{probed-as, phase-as, command-numbers, loop-numbers}
+use Rattle.model.specs.Values.{probed-values}
+use Rattle.model.specs.Answers.{probed-as, phase-numbers, command-numbers, loop-numbers}
 use Rattle.model.specs.Replies.{Reply, refuse, give, told-as, Answered}
 use Rattle.model.specs.Node as Node
 use Rattle.model.specs.Commands as Tree
 use Rattle.model.specs.Commands.{command}
 use Rattle.model.specs.declared.Refusal.{Refusal}
 use Rattle.model.specs.declared.Probed.{Probed}
-use Rattle.model.specs.declared.Phase.{Phase}
 use Rattle.model.specs.declared.JudgeAnswer.the-variants as J
 use Rattle.model.specs.declared.ProbeAnswer.the-variants as P
-use Rattle.model.specs.declared.PhaseAnswer.the-variants as W
+use Rattle.model.specs.declared.PhaseAnswer.{PhaseAnswer}
 use Rattle.model.specs.declared.Refusal.the-variants.{AskedCommand}
 use Rattle.model.specs.declared.CommandAnswer.{CommandAnswer}
 use Rattle.model.specs.declared.CommandAnswer.the-variants as C
@@ -29,6 +28,8 @@ use Rattle.sheet.proofs.AskedLaws.{asked}
 use Rattle.children.specs.ChildList.{children-of}
 use Rattle.commands.specs.Handling.{reply-handling, handling-values}
 use Rattle.commands.proofs.HandlingLaws.{HandledSo}
+use Rattle.phases.specs.Phasing.{reply-phase, phasing-values}
+use Rattle.phases.proofs.PhasingLaws.{PhasedSo}
 use Rattle.loops.specs.LoopQuestion.{loops-values, reply-loop}
 use Rattle.bargewicker.specs.Questions.{Question, judge, probe-in, phase-from, command-in, loop-with, Answer, accepted, probed, phased, commanded, looped, placed, reply-command, reply, lent}
 use Rattle.bargewicker.specs.Numbers.{values}
@@ -60,11 +61,14 @@ module _ (b l : List ℕ) (q : ℕ) (fits : (rest : Class → Reply Answer) → 
       answered-by values (reply (probe-in b l q)) (give (probed (probe (class-of b) (children-of l) q)) []) (fits (λ c. give (probed (probe c (children-of l) q)) [])) []
       (0 ∷ probed-values (probed-as r)) [] (ap (λ (p : Node.Probed). 0 ∷ probed-values p) e) refl
 
-  pub phased-so : (r : Phase) → phase-as r ≡ phase (class-of b) (children-of l) q → Promised (phase-from b l q out) (W.Given r) []
-  unfolding reply values
-  phased-so r e =
-      answered-by values (reply (phase-from b l q out)) (give (phased (phase (class-of b) (children-of l) q)) []) (fits (λ c. give (phased (phase c (children-of l) q)) [])) []
-      (0 ∷ phase-values (phase-as r)) [] (ap (λ (p : Node.Phase). 0 ∷ phase-values p) e) refl
+  placed-phase : (out : List ℕ) → reply (phase-from b l q out) ≡ told-as phased (reply-phase (phase (class-of b) (children-of l) q) out)
+  unfolding reply
+  placed-phase out = fits (λ c. told-as phased (reply-phase (phase c (children-of l) q) out))
+
+  pub phased-so : (out : List ℕ) (r : PhaseAnswer) (after : List ℕ) → PhasedSo (phase (class-of b) (children-of l) q) out after r → Promised (phase-from b l q out) r after
+  unfolding values
+  phased-so out r after a =
+      rw (placed-phase out) (answered-as phased phasing-values values (λ _. refl) (reply-phase (phase (class-of b) (children-of l) q) out) out (phase-numbers r) after a)
 
   -- the command, over 63 or handled
   module _ (m : ℕ) (out : List ℕ) where

@@ -10,7 +10,7 @@ use lib.ListN.{length}
 use borrow.Author.Tests.{ne-eqb, ltb-true}
 use Rattle.model.specs.Words.{choose, every}
 use Rattle.model.specs.Tree.{Class}
-use Rattle.model.specs.Node.{own-states}
+use Rattle.model.specs.Node.{own-states, Phase, phase, sent-of}
 use Rattle.model.specs.Commands.{Handling, handled, ignored, command}
 use Rattle.model.proofs.Words.{and-left, and-right}
 use Rattle.model.specs.Replies.{Reply, refuse, give, check, told-as}
@@ -22,9 +22,10 @@ use Rattle.children.proofs.ChildListLaws.{three-each}
 use Rattle.configurations.specs.Configurations.{name-count}
 use Rattle.configurations.specs.LoopAnswer.{Loops, loop-answer}
 use Rattle.commands.specs.Handling.{bytes-of-handling, reply-handling}
+use Rattle.phases.specs.Phasing.{bytes-of-phase, reply-phase}
 use Rattle.loops.specs.LoopQuestion.{present-right, bytes-of-loops, reply-loop}
-use Rattle.bargewicker.specs.Questions.{Question, judge, probe-in, phase-from, command-in, loop-with, commanded, looped, placed, reply, reply-command}
-use Rattle.bargewicker.specs.Table.{Check, rule, first-failed, body-checks, sheet-checks, place-checks, sent-by, command-checks, loop-checks, table}
+use Rattle.bargewicker.specs.Questions.{Question, judge, probe-in, phase-from, command-in, loop-with, phased, commanded, looped, placed, reply, reply-command}
+use Rattle.bargewicker.specs.Table.{Check, rule, first-failed, body-checks, sheet-checks, place-checks, phase-checks, sent-by, command-checks, loop-checks, table}
 
 -- the number of a refusal, 0 of an answer
 abbrev pub refused-number : {A : Type 0} → Reply A → ℕ
@@ -91,6 +92,15 @@ unfolding bytes-of-handling
 room (handled sent q) = three-each sent
 room (ignored q) = refl
 
+-- a settled phase needs three bytes for each command sent, one that loops none
+phase-failed : (p : Phase) (out : List ℕ) → refused-number (reply-phase p out) ≡ first-failed (rule 15 (leb (3 * length (sent-of p)) (length out)) ∷ [])
+unfolding reply-phase bytes-of-phase first-failed
+phase-failed p out = go (leb (length (bytes-of-phase p)) (length out)) ∙ ap (λ (n : ℕ). first-failed (rule 15 (leb n (length out)) ∷ [])) (three-each (sent-of p))
+  where
+    go : (t : Bool) → refused-number (check t 15 (λ _. give p (bytes-of-phase p))) ≡ first-failed (rule 15 t ∷ [])
+    go true = refl
+    go false = refl
+
 command-failed : (c : Class) (l : List ℕ) (q m : ℕ) (out : List ℕ) → refused-number (reply-command c l q m out) ≡ first-failed (command-checks c l q m out)
 unfolding reply-command reply-handling command-checks first-failed
 command-failed c l q m out =
@@ -117,9 +127,11 @@ loop-failed c present out =
 
 -- whatever is asked
 pub failed : (q : Question) → refused-number (reply q) ≡ first-failed (table q)
-unfolding reply table sheet-checks body-checks place-checks first-failed
+unfolding reply table sheet-checks body-checks place-checks phase-checks first-failed
 failed (judge b) = asked-failed b _ [] refl
 failed (probe-in b l q) = placed-failed b l q _ [] refl
-failed (phase-from b l q out) = placed-failed b l q _ [] refl
+failed (phase-from b l q out) =
+    let p : Phase = phase (class-of b) (children-of l) q in
+    placed-failed b l q _ (phase-checks (class-of b) l q out) (told-failed phased (reply-phase p out) ∙ phase-failed p out)
 failed (command-in b l q m out) = placed-failed b l q _ (command-checks (class-of b) l q m out) (told-failed commanded (reply-command (class-of b) l q m out) ∙ command-failed (class-of b) l q m out)
 failed (loop-with b present out) = asked-failed b _ (loop-checks (class-of b) present out) (told-failed looped (reply-loop (class-of b) present out) ∙ loop-failed (class-of b) present out)

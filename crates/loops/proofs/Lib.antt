@@ -6,5 +6,6 @@ pub mod CellsAgree
 pub mod WalkLaws
 pub mod TableLaws
 pub mod WritingLaws
+pub mod ListLaws
 pub mod LoopQuestionLaws
 pub mod Unique

@@ -14,7 +14,6 @@ use Rattle.model.specs.Words.{choose}
 use Rattle.model.specs.Tree.{Child}
 use Rattle.model.proofs.Words.{clash}
 use Rattle.model.proofs.Masks.{same-bits}
-use Rattle.children.proofs.Unique.{unique as shown}
 use Rattle.loops.specs.Cells.{Spreads}
 use Rattle.loops.specs.Chase.{leads, table-next, Tabulates}
 use Rattle.loops.specs.Unique.{Unique}
@@ -39,11 +38,10 @@ same-byte t u = go (eqb t 255) (eqb u 255) refl refl
     go false true p q e = absurd (clash (cc))
     go false false p q e = cc
 
-one-table : (b sets : List ℕ) → length sets ≡ 8 → (r s : Table) → length (r .to) ≡ 32 → length (s .to) ≡ 32 → Tabulates b sets r → Tabulates b sets s → r ≡ s
+one-table : (b list : List ℕ) (r s : Table) → length (r .to) ≡ 32 → length (s .to) ≡ 32 → Tabulates b list r → Tabulates b list s → r ≡ s
 unfolding table-next
-one-table b sets eight r s m n g h =
-    let (ks, c) = shown .crewing sets eight in
-    let same : r .to ≡ s .to = ext-getD 255 (r .to) (s .to) (m ∙ sym n) (λ q l. same-byte (getD (r .to) q 255) (getD (s .to) q 255) (g ks c q ∙ sym (h ks c q))) in
+one-table b list r s m n g h =
+    let same : r .to ≡ s .to = ext-getD 255 (r .to) (s .to) (m ∙ sym n) (λ q l. same-byte (getD (r .to) q 255) (getD (s .to) q 255) (g q ∙ sym (h q))) in
     λ i. record { to = same i }
 
 pub unique : Unique

@@ -17,7 +17,7 @@ use Rattle.model.specs.Node.{own-states, next}
 use Rattle.model.proofs.Words.{true-not-false, not-not-true, lt-or-le, below-next, some-below-intro, some-below-elim, least-found, least-not}
 use Rattle.model.proofs.Moves.{after-zero, after-add, after-ended}
 use Rattle.sheet.specs.Reading.{class-of}
-use Rattle.children.specs.NameSets.{Crewed}
+use Rattle.children.specs.ChildList.{children-of}
 use Rattle.configurations.specs.LoopAnswer.{returning}
 use Rattle.loops.specs.Chase.{leads, table-next, Tabulates, smallest, returning-state}
 use Rattle.loops.specs.declared.chase.Table.{Table}
@@ -141,9 +141,9 @@ module _ (f : ℕ → Bool) where
   smallest-none n q h l = rw (least-not n f (λ j u. h j (omega arith)))
 
 -- the table of a configuration's moves gives the class's smallest state
-pub state-told : (b : List ℕ) (sets : List ℕ) (ks : List Child) (t : Table) (n q : ℕ) → Tabulates b sets t → Crewed sets ks → n ≡ own-states (class-of b) → q ≡ smallest n (returns-soon (table-next (t .to)) n)
+pub state-told : (b list : List ℕ) (ks : List Child) (t : Table) (n q : ℕ) → Tabulates b list t → children-of list ≡ ks → n ≡ own-states (class-of b) → q ≡ smallest n (returns-soon (table-next (t .to)) n)
     → q ≡ returning-state (class-of b) ks
 unfolding returning
-state-told b sets ks t n q T c e h =
-    let moves : table-next (t .to) ≡ next (class-of b) ks = fun-ext (λ q. T ks c q) in
+state-told b list ks t n q T c e h =
+    let moves : table-next (t .to) ≡ next (class-of b) ks = fun-ext (λ q. T q) ∙ ap (next (class-of b)) c in
     h ∙ rw (moves, e)

@@ -11,7 +11,7 @@ use Rattle.model.specs.Words.{choose, maybe, least}
 use Rattle.model.specs.Tree.{Child, Class}
 use Rattle.model.specs.Node.{next}
 use Rattle.sheet.specs.Reading.{class-of}
-use Rattle.children.specs.NameSets.{Crewed}
+use Rattle.children.specs.ChildList.{children-of}
 use Rattle.configurations.specs.LoopAnswer.{returning}
 use Rattle.loops.specs.declared.chase.Table.{Table}
 
@@ -23,12 +23,12 @@ leads t = choose (eqb t 255) (λ _. none) (λ _. some t)
 unfoldable pub table-next : List ℕ → ℕ → Option ℕ
 table-next to q = leads (getD to q 255)
 
--- the byte and the table are the tree's moves, whatever child list the sets show
+-- the byte and the table are the tree's moves with the children of a list
 abbrev pub MovesTo : List ℕ → List ℕ → ℕ → ℕ → Type 0
-MovesTo b sets q r = (ks : List Child) → Crewed sets ks → leads r ≡ next (class-of b) ks q
+MovesTo b list q r = leads r ≡ next (class-of b) (children-of list) q
 
 abbrev pub Tabulates : List ℕ → List ℕ → Table → Type 0
-Tabulates b sets r = (ks : List Child) → Crewed sets ks → (q : ℕ) → table-next (r .to) q ≡ next (class-of b) ks q
+Tabulates b list r = (q : ℕ) → table-next (r .to) q ≡ next (class-of b) (children-of list) q
 
 -- the smallest number below n that passes the test; 0 where none does
 abbrev pub smallest : ℕ → (ℕ → Bool) → ℕ

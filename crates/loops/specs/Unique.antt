@@ -17,11 +17,11 @@ use Rattle.loops.specs.Chase.{Tabulates}
 use Rattle.loops.specs.LoopQuestion.{loops-values}
 use Rattle.loops.specs.declared.chase.Table.{Table}
 
--- eight sets of 32 bits, and a table of 32 bytes, are of these lengths by their types; the state of `smallest_returning` and `returning_in` is an
+-- a table of 32 bytes is of this length by its type; the state of `smallest_returning` and `returning_in` is an
 -- equation
 pub record Unique : Type 0 where
   pub reading : (classes : List ℕ) (present : ℕ) → LeavesOne (λ (r : Cells). r ≡ first-twenty (present-cells classes present))
   pub spreading : (ks : List Child) → LeavesOne (λ (sets : List ℕ). Spreads sets ks)
-  pub tabulating : (b sets : List ℕ) → length sets ≡ 8 → (r s : Table) → length (r .to) ≡ 32 → length (s .to) ≡ 32 → Tabulates b sets r → Tabulates b sets s → r ≡ s
+  pub tabulating : (b list : List ℕ) (r s : Table) → length (r .to) ≡ 32 → length (s .to) ≡ 32 → Tabulates b list r → Tabulates b list s → r ≡ s
   pub asking : (reply : Reply Loops) (out : List ℕ) (r s : LoopAnswer) (x y : List ℕ)
       → Answered loops-values reply out (loop-numbers r) x → Answered loops-values reply out (loop-numbers s) y → (r ≡ s) × (x ≡ y)

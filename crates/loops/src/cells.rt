@@ -107,10 +107,10 @@ pub fn spread(cells: Cells, k: u32) -> [u32; 8]
     sets
 }
 
-// The list of a configuration, one child per set bit, in bit order, as pairs; what is behind them is kept.
-pub fn write_list(cells: Cells, k: u32, out: &mut [u8])
+// The list of a configuration, one child per set bit, in bit order, as pairs; what is behind them is kept. How many bytes it has.
+pub fn write_list(cells: Cells, k: u32, out: &mut [u8]) -> usize
     requires { ⌜ (cells .count ≤ 20) × (2 * cells .count ≤ length (now out)) ⌝ }
-    ensures { λ _. ⌜ now (out .exit) ≡ written (pairs (chosen (cells-of cells) k)) (now (out .entry)) ⌝ }
+    ensures { λ r. ⌜ (now (out .exit) ≡ written (pairs (chosen (cells-of cells) k)) (now (out .entry))) × (r ≡ length (pairs (chosen (cells-of cells) k))) ⌝ }
 {
     let classes = cells.classes;
     let names = cells.names;
@@ -126,4 +126,5 @@ pub fn write_list(cells: Cells, k: u32, out: &mut [u8])
             at = at + 2;
         }
     }
+    at
 }

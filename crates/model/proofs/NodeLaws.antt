@@ -11,7 +11,7 @@ use Rattle.model.specs.Words.{choose, maybe}
 use Rattle.model.specs.Tree.{Child, everyone, any-in, atom, Referrer, move-to, run, stay, When, Class, no-action}
 use Rattle.model.specs.Guards.{holds}
 use Rattle.model.specs.Moves.{after, EndsAt, Ends, Within}
-use Rattle.model.specs.Node.{own-states, state-of, Probed, nothing, found, first-true, probe, Ending, by-do, Turn, stops, moves, action-of, turn-by, turn-for, turn, moved, next, sent-in, sends, on-the-way, Phase, settled, loops, by-turn, walk, phase}
+use Rattle.model.specs.Node.{own-states, state-of, Probed, nothing, found, first-true, probe, Ending, by-none, by-stay, by-do, Turn, stops, moves, action-of, turn-by, turn-for, turn, moved, next, sent-in, sends, on-the-way, Phase, settled, loops, by-turn, walk, phase}
 use Rattle.model.specs.Running.{Sent, Ran, run-part, goes}
 use Rattle.model.specs.Sound.{ReferrerRight, Sound}
 use Rattle.model.proofs.Words.{clash}
@@ -279,6 +279,28 @@ module _ (c : Class) (ks : List Child) where
         go : (p : Phase) → phase c ks q ≡ p → (r : ℕ) × (phase c ks q ≡ loops r (own-states c)) × (after (next c ks) (own-states c) q ≡ some r)
         go (loops r m) h = let (a, b) = phase-loops q r m h in (r, h ∙ ap (loops r) a, b)
         go (settled e r m sent) h = absurd (never (m, r, phase-settled q e r m sent h .there))
+
+-- a turn that stops by none is by no clause, one that stops by STAY by a STAY: a DO that stops, stops by DO
+not-by-do : (m : ℕ) (r : Ran) (e : Ending) (sent : List Sent) → turn-by m r ≡ stops e sent → e ≡ by-do m
+not-by-do m r e sent = go (r .moved)
+  where
+    go : (o : Option ℕ) → maybe o (λ _. stops (by-do m) (r .sent)) (λ t. moves t (r .sent)) ≡ stops e sent → e ≡ by-do m
+    go none h = cc
+    go (some t) h = absurd (clash (cc))
+
+pub stops-none : (c : Class) (ks : List Child) (q : ℕ) (p : Probed) (sent : List Sent) → turn-for c ks q p ≡ stops by-none sent → p ≡ nothing
+unfolding turn-for
+stops-none c ks q nothing sent e = refl
+stops-none c ks q (found i (move-to t)) sent e = absurd (clash (cc))
+stops-none c ks q (found i (run a)) sent e = let z = not-by-do (action-of c q a .command) (run-part (action-of c q a .body) ks) by-none sent e in absurd (clash (cc))
+stops-none c ks q (found i stay) sent e = absurd (clash (cc))
+
+pub stops-stay : (c : Class) (ks : List Child) (q : ℕ) (p : Probed) (sent : List Sent) → turn-for c ks q p ≡ stops by-stay sent → (i : ℕ) × (p ≡ found i stay)
+unfolding turn-for
+stops-stay c ks q nothing sent e = absurd (clash (cc))
+stops-stay c ks q (found i (move-to t)) sent e = absurd (clash (cc))
+stops-stay c ks q (found i (run a)) sent e = let z = not-by-do (action-of c q a .command) (run-part (action-of c q a .body) ks) by-stay sent e in absurd (clash (cc))
+stops-stay c ks q (found i stay) sent e = (i, refl)
 
 -- a turn that stops on a DO is by a clause that runs an action, whose command it names and which goes nowhere
 pub turn-runs : (c : Class) (ks : List Child) (q m : ℕ) (p : Probed) (sent : List Sent) → turn-for c ks q p ≡ stops (by-do m) sent

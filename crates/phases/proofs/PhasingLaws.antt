@@ -9,7 +9,7 @@ use Rattle.model.specs.Running.{Sent}
 use Rattle.model.specs.Node as Tree
 use Rattle.model.specs.Values.{settled-values, loop-values}
 use Rattle.model.specs.Answers.{ending-as, phased-values, phase-numbers}
-use Rattle.model.specs.Replies.{refuse, give, Answered}
+use Rattle.model.specs.Replies.{refuse, give, written, Answered}
 use Rattle.model.specs.declared.OwnState.{OwnState}
 use Rattle.model.specs.declared.Refusal.the-variants.{Room}
 use Rattle.model.specs.declared.Ending.{Ending}
@@ -26,6 +26,17 @@ use Rattle.phases.specs.Phases.{Walked}
 -- an answer, and the buffer afterwards, are those of the phase t
 abbrev pub PhasedSo : Tree.Phase → List ℕ → List ℕ → PhaseAnswer → Type 0
 PhasedSo t out after r = Answered phasing-values (reply-phase t out) out (phase-numbers r) after
+
+-- 15: what is sent needs more than the buffer holds
+pub short-so : (t : Tree.Phase) (out after : List ℕ) → length out < length (bytes-of-phase t) → after ≡ out → PhasedSo t out after (Refused Room)
+unfolding reply-phase
+short-so t out after l same = answered-by phasing-values (reply-phase t out) (refuse 15) (room-short t (bytes-of-phase t) out l) out (15 ∷ []) after refl same
+
+-- with room it is given and written
+pub given-so : (t : Tree.Phase) (out after : List ℕ) (r : Phase) → phased-values r ≡ phasing-values t → length (bytes-of-phase t) ≤ length out → after ≡ written (bytes-of-phase t) out → PhasedSo t out after (Given r)
+unfolding reply-phase
+given-so t out after r e l w =
+    answered-by phasing-values (reply-phase t out) (give t (bytes-of-phase t)) (room-given t (bytes-of-phase t) out l) out (phase-numbers (Given r)) after (ap (_∷_ 0) e) w
 
 -- the fourth of the values is the number of bytes written
 settled-count : (e : Tree.Ending) (q m n : ℕ) → getD (settled-values e q m n) 3 0 ≡ n
@@ -57,30 +68,27 @@ module _ (t : Tree.Phase) (before after : List ℕ) (e : Ending) (s : OwnState) 
       go (Tree.settled d q k sent) h = (d, q, k, sent, refl)
       go (Tree.loops q k) h = absurd (omega (arith, settled-first (ending-as e) (s .0) m n, ap (λ (l : List ℕ). getD l 0 0) h))
 
-  -- 15: what is sent needs more than the buffer holds
+  -- the first walk counted more than the buffer holds
   pub short-told : (out final : List ℕ) → final ≡ out → length final < n → PhasedSo t out final (Refused Room)
-  unfolding reply-phase
-  short-told out final same l =
-      answered-by phasing-values (reply-phase t out) (refuse 15) (room-short t (bytes-of-phase t) out (omega (arith, count-is, ap length same))) out (15 ∷ []) final refl same
+  short-told out final same l = short-so t out final (omega (arith, count-is, ap length same)) same
 
   -- a second walk on as much of the buffer as was counted
   pub settled-told : (out out′ room last : List ℕ) (r : Phase) → out′ ≡ out → n ≤ length out′ → Walked t room last r → room ≡ take (n - 0) out′ → PhasedSo t out (last ++ drop (n - 0) out′) (Given r)
-  unfolding reply-phase bytes-of-phase
+  unfolding bytes-of-phase
   settled-told out out′ room last r same l W er =
       let (d, q, k, sent, f) = is-settled in
       let bytes-are : bytes-of-phase t ≡ sent-bytes sent = ap bytes-of-phase f in
       let long : n ≡ length (sent-bytes sent) = count-is ∙ ap length bytes-are in
       let c : last ≡ sent-bytes sent = W .written d q k sent f ∙ sets-all room (sent-bytes sent) (omega (arith, ap length er, length-take (n - 0) out′)) in
       let z : n - 0 ≡ length (bytes-of-phase t) = omega (arith, count-is) in
-      answered-by phasing-values (reply-phase t out) (give t (bytes-of-phase t)) (room-given t (bytes-of-phase t) out (omega (arith, count-is, ap length same))) out (phase-numbers (Given r)) (last ++ drop (n - 0) out′)
-      (ap (_∷_ 0) (W .numbers-are)) (rw (z, same) (ap (λ (l : List ℕ). l ++ drop (length (bytes-of-phase t)) out) (c ∙ sym bytes-are)))
+      given-so t out (last ++ drop (n - 0) out′) r (W .numbers-are) (omega (arith, count-is, ap length same))
+      (rw (z, same) (ap (λ (l : List ℕ). l ++ drop (length (bytes-of-phase t)) out) (c ∙ sym bytes-are)))
 
 -- a phase that loops writes nothing and needs no room
 pub loops-told : (t : Tree.Phase) (before after : List ℕ) (s : OwnState) (m : ℕ) → Walked t before after (Looping s m) → (out final : List ℕ) → final ≡ out → PhasedSo t out final (Given (Looping s m))
-unfolding reply-phase bytes-of-phase phasing-values sent-bytes
+unfolding bytes-of-phase phasing-values sent-bytes
 loops-told t before after s m w out final same = go t (w .numbers-are)
   where
     go : (x : Tree.Phase) → phased-values (Looping s m) ≡ phasing-values x → PhasedSo x out final (Given (Looping s m))
     go (Tree.settled d q k sent) h = absurd (omega (arith, settled-first d q k (length (sent-bytes sent)), ap (λ (l : List ℕ). getD l 0 0) h))
-    go (Tree.loops q k) h =
-        answered-by phasing-values (reply-phase (Tree.loops q k) out) (give (Tree.loops q k) []) (room-given (Tree.loops q k) [] out (omega arith)) out (phase-numbers (Given (Looping s m))) final (ap (_∷_ 0) h) same
+    go (Tree.loops q k) h = given-so (Tree.loops q k) out final (Looping s m) h (omega arith) same

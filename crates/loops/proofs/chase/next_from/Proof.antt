@@ -5,12 +5,5 @@ use borrow.Author.Needs.{needs}
 use Rattle.loops.proofs.chase.next_from.Statement.{statement}
 use Rattle.loops.proofs.chase.next_from.Tie as tie
 
-returns : tie.Need-returns
-returns c = let b = c .before .before .before .before in moves-byte _ _ (b .before .pre) _ _ _ (c .before .before .before .turn-from .ensures) (λ i. b .shared-slice-known .given i .fits) _ (c .before .taken .given .1)
-
-returns-2 : tie.Need-returns-2
-returns-2 c = let b = c .before .before .before in stops-byte _ _ (b .before .pre) _ _ _ (c .before .before .turn-from .ensures) _ (c .enum-told .given .1)
-
 pub next-from-spec : {M : Type 1} → statement M
-next-from-spec =
-    tie.close (tie.spec (λ c κs. search needs) (λ c. search needs) (λ c. search needs) returns returns-2)
+next-from-spec = ?
