@@ -9,7 +9,7 @@ use crate::reading::{read, Lent};
 use crate::tree::{Class, Referrer};
 
 const MOST_CHILDREN: usize = 4096;
-const MOST_NAMES: usize = 20;
+pub const MOST_NAMES: usize = 20;
 
 /// The answer to a line, whatever it is.
 pub fn answer_line(line: &[u8]) -> String {
@@ -24,13 +24,13 @@ fn answer(question: &Question) -> String {
     let result = match question {
         Question::Judge { sheet } => judge(sheet).map(|_| "accepted".to_string()),
         Question::Probe { sheet, list, state } => answer_probe(sheet, list, *state),
-        Question::Phase { sheet, list, state } => answer_phase(sheet, list, *state),
+        Question::Phase { sheet, list, state, buffer } => answer_phase(sheet, list, *state, buffer),
         Question::Command { sheet, list, state, command, buffer } => answer_command(sheet, list, *state, *command, buffer),
         Question::Loop { sheet, present, buffer } => answer_loop(sheet, *present, buffer),
         Question::Read(lent) => Ok(answer_read(lent)),
     };
     let lent = match question {
-        Question::Command { buffer, .. } | Question::Loop { buffer, .. } => format!(" {}", hex(buffer)),
+        Question::Phase { buffer, .. } | Question::Command { buffer, .. } | Question::Loop { buffer, .. } => format!(" {}", hex(buffer)),
         _ => String::new(),
     };
     result.unwrap_or_else(|number| format!("refused {number}{lent}"))
@@ -67,17 +67,28 @@ fn answer_probe(sheet: &[u8], list: &[u8], state: u8) -> Result<String, u8> {
     })
 }
 
-/// The when phase's answer.
-fn answer_phase(sheet: &[u8], list: &[u8], state: u8) -> Result<String, u8> {
+/// The when phase's answer; 15 comes last, and a phase that loops needs no room.
+fn answer_phase(sheet: &[u8], list: &[u8], state: u8, buffer: &[u8]) -> Result<String, u8> {
     let class = judge(sheet)?;
     let children = children(&class, list)?;
     rule_11(&class, state)?;
     Ok(match phase(&class, &children, state) {
-        Phase::Settled { ending: Ending::NoClause, state, moves } => format!("none {state} {moves}"),
-        Phase::Settled { ending: Ending::Stay, state, moves } => format!("stay {state} {moves}"),
-        Phase::Settled { ending: Ending::Do(command), state, moves } => format!("do {state} {moves} {command}"),
-        Phase::Loop { state, moves } => format!("loop {state} {moves}"),
+        Phase::Settled { ending, state, moves, sent } => {
+            let after = written(buffer, &sent)?;
+            let (word, command) = ending_words(ending);
+            format!("{word} {state} {moves} {} {command} {}", sent.len(), hex(&after))
+        }
+        Phase::Loop { state, moves } => format!("loop {state} {moves} 0 - {}", hex(buffer)),
     })
+}
+
+/// How a phase ended, in a word, and the command of the DO that closed it.
+fn ending_words(ending: Ending) -> (&'static str, String) {
+    match ending {
+        Ending::NoClause => ("none", "-".to_string()),
+        Ending::Stay => ("stay", "-".to_string()),
+        Ending::Do(command) => ("do", command.to_string()),
+    }
 }
 
 /// The buffer after bytes were written at its beginning; 15 where they have no room.

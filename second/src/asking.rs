@@ -1,7 +1,7 @@
 //! Questions about a sheet: child lists, states, commands, present classes and buffers, good ones and wrong ones.
 
 use crate::answering::children;
-use crate::behaviour::command;
+use crate::behaviour::{command, phase, Phase};
 use crate::lines::Question;
 use crate::loops::pairs;
 use crate::random::Random;
@@ -67,6 +67,25 @@ fn room(class: &Class, list: &[u8], state: u8, asked: u8) -> usize {
     }
 }
 
+/// The bytes that a when phase sends on good input; none where it loops, or where the input is wrong.
+pub fn room_of_phase(class: &Class, list: &[u8], state: u8) -> Option<usize> {
+    let children = children(class, list).ok().filter(|_| usize::from(state) < class.states.len())?;
+    match phase(class, &children, state) {
+        Phase::Settled { sent, .. } => Some(sent.len()),
+        Phase::Loop { .. } => None,
+    }
+}
+
+/// A when phase with a buffer that suits it; where no room is needed, none or any.
+pub fn phase_of(random: &mut Random, sheet: Vec<u8>, class: &Class, list: Vec<u8>, state: u8) -> Question {
+    let buffer = match room_of_phase(class, &list, state) {
+        Some(room) => buffer(random, room),
+        None if random.chance(40) => Vec::new(),
+        None => { let length = random.below(40); random.bytes(length) }
+    };
+    Question::Phase { sheet, list, state, buffer }
+}
+
 /// Present classes that make no more names than this.
 fn present(random: &mut Random, class: &Class, most: usize) -> u8 {
     let all = ((1u16 << class.children.len()) - 1) as u8;
@@ -89,7 +108,7 @@ pub fn good_of_kind(random: &mut Random, kind: usize, sheet: Vec<u8>, class: &Cl
     match kind {
         0 => Question::Judge { sheet },
         1 => Question::Probe { sheet, list, state },
-        2 => Question::Phase { sheet, list, state },
+        2 => phase_of(random, sheet, class, list, state),
         3 => {
             let command = any_command(random, class, state);
             let buffer = buffer(random, room(class, &list, state, command));
@@ -158,7 +177,7 @@ pub fn bad_input(random: &mut Random, rules: &[u8], sheet: Vec<u8>, class: &Clas
         return Question::Probe { sheet, list, state };
     }
     if kind == 1 && !rules.contains(&12) {
-        return Question::Phase { sheet, list, state };
+        return phase_of(random, sheet, class, list, state);
     }
     let command = if rules.contains(&12) {
         bad_command(random, class, state)
@@ -184,6 +203,26 @@ pub fn short_command(random: &mut Random, sheet: Vec<u8>, class: &Class) -> Ques
     let (list, state, command, room) = asked;
     let length = if random.chance(60) { room.saturating_sub(1) } else { random.below(room.max(1)) };
     Question::Command { sheet, list, state, command, buffer: random.bytes(length) }
+}
+
+/// A when phase with too short a buffer for what it sends, where it sends something.
+pub fn short_phase(random: &mut Random, sheet: Vec<u8>, class: &Class) -> Question {
+    let mut asked = (Vec::new(), 0, 0);
+    for _ in 0..20 {
+        let (list, state) = (list(random, class), state(random, class));
+        let room = room_of_phase(class, &list, state).unwrap_or(0);
+        asked = (list, state, room);
+        if room > 0 {
+            break;
+        }
+    }
+    let (list, state, room) = asked;
+    let length = match random.below(10) {
+        0..=4 => room.saturating_sub(1),
+        5 | 6 => 0,
+        _ => random.below(room.max(1)),
+    };
+    Question::Phase { sheet, list, state, buffer: random.bytes(length) }
 }
 
 /// A loop question with a present bit too many, where there is one, and no more names than this.

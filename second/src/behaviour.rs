@@ -13,11 +13,19 @@ pub enum Ending {
     Do(u8),
 }
 
-/// A when phase: it settles, or goes round for ever (then the state is the one after as many moves as there are states).
-#[derive(Clone, Copy, Debug, PartialEq)]
+/// A when phase: it settles, and has sent what its DOs sent, or goes round for ever (then the state is the one after as many moves as
+/// there are states, and what was sent on the way does not count).
+#[derive(Clone, Debug, PartialEq)]
 pub enum Phase {
-    Settled { ending: Ending, state: u8, moves: usize },
+    Settled { ending: Ending, state: u8, moves: usize, sent: Vec<u8> },
     Loop { state: u8, moves: usize },
+}
+
+/// What follows from one probe: a move, by MOVE_TO or by what a DO runs, or the end of the phase.
+#[derive(Clone, Copy, Debug, PartialEq)]
+pub enum Step {
+    Move(u8),
+    End(Ending),
 }
 
 /// Is the guard true of these children?
@@ -42,26 +50,37 @@ pub fn probe(state: &State, children: &[Child]) -> Option<usize> {
     state.clauses.iter().position(|clause| holds(&clause.guard, children))
 }
 
+/// Probes in a state. A DO runs its clause at once; what it sends comes behind what was sent before.
+pub fn step(class: &Class, children: &[Child], here: u8, sent: &mut Vec<u8>) -> Step {
+    let state = &class.states[usize::from(here)];
+    match probe(state, children).map(|number| state.clauses[number].referrer) {
+        Some(Referrer::MoveTo(target)) => Step::Move(target),
+        Some(Referrer::Do(number)) => {
+            let action = &state.actions[usize::from(number)];
+            match run_list(&action.body, children, sent) {
+                Some(target) => Step::Move(target),
+                None => Step::End(Ending::Do(action.command)),
+            }
+        }
+        Some(Referrer::Stay) => Step::End(Ending::Stay),
+        None => Step::End(Ending::NoClause),
+    }
+}
+
 /// The when phase from a state, walked until it ends or comes back to where it was.
 pub fn phase(class: &Class, children: &[Child], start: u8) -> Phase {
-    let mut path = vec![start];
+    let (mut path, mut sent) = (vec![start], Vec::new());
     loop {
         let here = path[path.len() - 1];
-        let state = &class.states[usize::from(here)];
-        let referrer = probe(state, children).map(|number| state.clauses[number].referrer);
-        let ending = match referrer {
-            Some(Referrer::MoveTo(next)) => {
+        match step(class, children, here, &mut sent) {
+            Step::Move(next) => {
                 if let Some(entry) = path.iter().position(|visited| *visited == next) {
                     return round(&path, entry, class.states.len());
                 }
                 path.push(next);
-                continue;
             }
-            Some(Referrer::Do(number)) => Ending::Do(state.actions[usize::from(number)].command),
-            Some(Referrer::Stay) => Ending::Stay,
-            None => Ending::NoClause,
-        };
-        return Phase::Settled { ending, state: here, moves: path.len() - 1 };
+            Step::End(ending) => return Phase::Settled { ending, state: here, moves: path.len() - 1, sent },
+        }
     }
 }
 
@@ -85,38 +104,35 @@ pub fn command(class: &Class, children: &[Child], state: u8, command: u8) -> Run
     let actions = &class.states[usize::from(state)].actions;
     if let Some(action) = actions.iter().find(|action| action.command == command) {
         run.handled = true;
-        run_list(&action.body, children, &mut run);
+        run.state = run_list(&action.body, children, &mut run.sent).unwrap_or(state);
     }
     run
 }
 
-/// Runs statements in turn; true when a move_to has ended the clause.
-fn run_list(statements: &[Statement], children: &[Child], run: &mut Run) -> bool {
+/// Runs statements in turn, up to the first move_to that is reached, whose state it gives; what they send comes behind what was sent before.
+fn run_list(statements: &[Statement], children: &[Child], sent: &mut Vec<u8>) -> Option<u8> {
     for statement in statements {
-        let ended = match statement {
+        let reached = match statement {
             Statement::Send { command, pattern } => {
-                send(*command, *pattern, children, run);
-                false
+                send(*command, *pattern, children, sent);
+                None
             }
-            Statement::MoveTo(state) => {
-                run.state = *state;
-                true
-            }
-            Statement::If { guard, then, other } => run_list(if holds(guard, children) { then } else { other }, children, run),
+            Statement::MoveTo(state) => Some(*state),
+            Statement::If { guard, then, other } => run_list(if holds(guard, children) { then } else { other }, children, sent),
         };
-        if ended {
-            return true;
+        if reached.is_some() {
+            return reached;
         }
     }
-    false
+    None
 }
 
 /// Sends a command to each child of the pattern, in list order.
-fn send(command: u8, pattern: Pattern, children: &[Child], run: &mut Run) {
+fn send(command: u8, pattern: Pattern, children: &[Child], sent: &mut Vec<u8>) {
     for (place, child) in children.iter().enumerate() {
         if pattern.speaks_of(child.0) {
-            run.sent.extend_from_slice(&(place as u16).to_le_bytes());
-            run.sent.push(command);
+            sent.extend_from_slice(&(place as u16).to_le_bytes());
+            sent.push(command);
         }
     }
 }

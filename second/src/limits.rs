@@ -1,8 +1,9 @@
 //! Sheets at the limits of the tables, and guards that share records.
 
+use crate::moving::{add_action, sends};
 use crate::random::Random;
-use crate::shapes::{atom, class, class_over, commands, deep_guard, names, pattern, statements, Shape, LADDER, WHOLE};
-use crate::tree::{Atom, Clause, Class, Guard, Names, Pattern, Quantifier, Referrer, Statement};
+use crate::shapes::{atom, class, class_over, commands, deep_guard, names, pattern, statements, true_guard, Shape, LADDER, WHOLE};
+use crate::tree::{Atom, Clause, Class, Guard, Names, Pattern, Quantifier, Referrer, State, Statement};
 use crate::writing::{atom_record, bodies_of, name_bytes, pattern_byte, Bodies, ACTIONS, CLASSES, GUARDS, STATEMENTS, STATES, WHENS};
 
 /// A class with one when guard and one if guard whose longest path has this many operators.
@@ -85,27 +86,57 @@ fn all_of(guards: &[Guard]) -> Guard {
     }
 }
 
-/// A class in which one configuration alone makes every state move on; with a way back from the last state, or without.
-pub fn pinned(random: &mut Random, total: usize) -> Class {
-    let shape = Shape { states: (2, 4), clauses: (0, 2), depth: 1, actions: (0, 0), ..LADDER };
-    let mut class = many_names(random, total, &shape);
+/// Guards that are all true of one configuration, and of no other.
+fn pins(random: &mut Random, children: &[Names]) -> Vec<Guard> {
     let everything = random.chance(30);
     let mut pins = Vec::new();
-    for (number, names) in class.children.iter().enumerate() {
+    for (number, names) in children.iter().enumerate() {
         for name in names {
             let occupied = everything || random.chance(50);
             pins.push(pin(random, number as u8, *name, occupied));
         }
     }
-    let guard = all_of(&pins);
-    let (count, back) = (class.states.len(), random.chance(50));
+    pins
+}
+
+/// A class in which one configuration alone makes every state move on; with a way back from the last state, or without.
+pub fn pinned(random: &mut Random, total: usize) -> Class {
+    let shape = Shape { states: (2, 4), clauses: (0, 2), depth: 1, actions: (0, 0), ..LADDER };
+    let mut class = many_names(random, total, &shape);
+    let pins = pins(random, &class.children);
+    let (count, back, percent) = (class.states.len(), random.chance(50), random.pick(&[0, 50, 100]));
     for (number, state) in class.states.iter_mut().enumerate() {
-        if back || number + 1 < count {
-            let referrer = Referrer::MoveTo(((number + 1) % count) as u8);
-            state.clauses.insert(0, Clause { guard: guard.clone(), referrer });
+        let target = ((number + 1) % count) as u8;
+        if !back && target == 0 {
+            continue;
+        }
+        if random.chance(percent) {
+            pinned_do(random, state, &class.children, &pins, target);
+        } else {
+            state.clauses.insert(0, Clause { guard: all_of(&pins), referrer: Referrer::MoveTo(target) });
         }
     }
     class
+}
+
+/// Gives a state a DO that moves where all of the guards are true: its when clause asks for some of them, ifs for the others.
+fn pinned_do(random: &mut Random, state: &mut State, children: &[Names], pins: &[Guard], target: u8) {
+    let (mut asked, mut others) = (Vec::new(), Vec::new());
+    for pin in pins {
+        if random.chance(30) { asked.push(pin.clone()) } else { others.push(pin.clone()) }
+    }
+    let mut body = vec![Statement::MoveTo(target)];
+    let size = others.len().div_ceil(8).max(random.between(1, 3));
+    for part in others.chunks(size) {
+        let (guard, beside) = (all_of(part), sends(random, children, 1));
+        body = vec![match random.below(2) {
+            0 => Statement::If { guard, then: body, other: beside },
+            _ => Statement::If { guard: Guard::Not(Box::new(guard)), then: beside, other: body },
+        }];
+    }
+    let guard = if asked.is_empty() { true_guard(random, children) } else { all_of(&asked) };
+    let number = add_action(random, state, body);
+    state.clauses.insert(0, Clause { guard, referrer: Referrer::Do(number) });
 }
 
 /// Random guard records of which most begin a guard; operators and atoms are mixed, so guards overlap.

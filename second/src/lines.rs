@@ -11,7 +11,7 @@ pub const FORMER_LONGEST_LINE: usize = 262_144;
 pub enum Question {
     Judge { sheet: Vec<u8> },
     Probe { sheet: Vec<u8>, list: Vec<u8>, state: u8 },
-    Phase { sheet: Vec<u8>, list: Vec<u8>, state: u8 },
+    Phase { sheet: Vec<u8>, list: Vec<u8>, state: u8, buffer: Vec<u8> },
     Command { sheet: Vec<u8>, list: Vec<u8>, state: u8, command: u8, buffer: Vec<u8> },
     Loop { sheet: Vec<u8>, present: u8, buffer: Vec<u8> },
     Read(Lent),
@@ -59,7 +59,7 @@ impl Question {
         match self {
             Question::Judge { sheet } => format!("judge {}", hex(sheet)),
             Question::Probe { sheet, list, state } => format!("probe {} {} {state}", hex(sheet), hex(list)),
-            Question::Phase { sheet, list, state } => format!("phase {} {} {state}", hex(sheet), hex(list)),
+            Question::Phase { sheet, list, state, buffer } => format!("phase {} {} {state} {}", hex(sheet), hex(list), hex(buffer)),
             Question::Command { sheet, list, state, command, buffer } => {
                 format!("command {} {} {state} {command} {}", hex(sheet), hex(list), hex(buffer))
             }
@@ -81,7 +81,9 @@ impl Question {
         match (fields[0], &fields[2..]) {
             (b"judge", []) => Some(Question::Judge { sheet }),
             (b"probe", [list, state]) => Some(Question::Probe { sheet, list: unhex(list)?, state: decimal(state)? }),
-            (b"phase", [list, state]) => Some(Question::Phase { sheet, list: unhex(list)?, state: decimal(state)? }),
+            (b"phase", [list, state, buffer]) => {
+                Some(Question::Phase { sheet, list: unhex(list)?, state: decimal(state)?, buffer: unhex(buffer)? })
+            }
             (b"command", [list, state, command, buffer]) => {
                 let (state, command) = (decimal(state)?, decimal(command)?);
                 Some(Question::Command { sheet, list: unhex(list)?, state, command, buffer: unhex(buffer)? })

@@ -1,7 +1,7 @@
 //! The loop question: can a node of this class go round for ever in its when phase?
 
-use crate::behaviour::{probe, Child};
-use crate::tree::{Class, Referrer};
+use crate::behaviour::{step, Child, Step};
+use crate::tree::Class;
 use std::collections::BTreeSet;
 
 /// Up to this many names, lists with repeated children are tried as well.
@@ -31,14 +31,17 @@ struct Study {
     longest: usize,
 }
 
+/// The state that one move leads to from each state, by MOVE_TO or by a DO; what a DO sends is not kept.
+fn targets(class: &Class, children: &[Child]) -> Vec<Option<usize>> {
+    (0..class.states.len()).map(|here| match step(class, children, here as u8, &mut Vec::new()) {
+        Step::Move(target) => Some(usize::from(target)),
+        Step::End(_) => None,
+    }).collect()
+}
+
 /// Walks from every state: the smallest one that returns to itself, and the longest walk that ends.
 fn study(class: &Class, children: &[Child]) -> Study {
-    let next: Vec<Option<usize>> = class.states.iter().map(|state| {
-        match probe(state, children).map(|number| state.clauses[number].referrer) {
-            Some(Referrer::MoveTo(target)) => Some(usize::from(target)),
-            _ => None,
-        }
-    }).collect();
+    let next = targets(class, children);
     let mut result = Study { returning: None, longest: 0 };
     for start in 0..next.len() {
         let mut visited = BTreeSet::new();

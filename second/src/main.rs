@@ -18,6 +18,7 @@ mod loops;
 mod long_texts;
 mod making;
 mod making_texts;
+mod moving;
 mod name_damage;
 mod naming;
 mod printing;

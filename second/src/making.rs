@@ -1,12 +1,14 @@
 //! The mix of random questions.
 
-use crate::asking::{absent_class, bad_input, children_of, everyone, good, good_of_kind, short_command, NAMES_IN_PASSING};
+use crate::asking::{absent_class, bad_input, children_of, everyone, good, good_of_kind, list, phase_of, room_of_phase, short_command, short_phase};
+use crate::asking::{state, NAMES_IN_PASSING};
 use crate::behaviour::{command, phase, Child, Phase};
 use crate::damage::{damage_contents, damage_length, damage_records, shift_counts};
 use crate::judging::judge;
 use crate::limits::{guards_of_depth, ifs_of_depth, large, many_names, pinned, shared};
 use crate::lines::{Question, FORMER_LONGEST_LINE, LONGEST_LINE};
 use crate::making_texts;
+use crate::moving::{by_do, moving_class, Manner, ALL, DEEP, MIXED};
 use crate::random::Random;
 use crate::shapes::{class, Shape, Style, BUSY, CROWD, LADDER, RING, ROUND, SMALL, TALL, WHOLE};
 use crate::tree::{Class, Names};
@@ -19,6 +21,9 @@ const READING_SEED: u64 = 0x4EAD_1000_0000_0000;
 /// Every so many questions comes one about a sheet that takes long to answer or to send, and a long text; and so often a worked text.
 const HEAVY_EVERY: u64 = 500;
 const WORKED_EVERY: u64 = 150;
+
+/// A buffer of so many bytes fits into a line beside a small sheet and the longest list.
+const MOST_LENT: usize = 500_000;
 
 /// The line of one question of a run.
 pub fn make_line(seed: u64, index: u64) -> Vec<u8> {
@@ -39,14 +44,15 @@ pub fn make_line(seed: u64, index: u64) -> Vec<u8> {
         0..=69 => accepted(random),
         70..=75 => overlapping(random),
         76..=80 => near_limit(random),
-        81..=140 => damaged(random),
+        81..=123 => damaged(random),
+        124..=139 => moving(random),
         141..=163 => wrongly_asked(random),
         164..=180 => many_faults(random),
         181..=188 => scattered(random),
         189..=193 => shifted(random),
         194 => big(random),
         195 => twelve_names(random),
-        196 => one_configuration(random),
+        140 | 196 => one_configuration(random),
         _ => return bad_line(random),
     };
     question.line().into_bytes()
@@ -55,16 +61,57 @@ pub fn make_line(seed: u64, index: u64) -> Vec<u8> {
 /// A question about a good sheet of some shape.
 fn accepted(random: &mut Random) -> Question {
     let shape = random.pick(&[SMALL, SMALL, WHOLE, WHOLE, LADDER, LADDER, RING, RING, RING, RING, BUSY, BUSY, BUSY, CROWD, CROWD, TALL, ROUND]);
-    let class = class(random, &shape);
+    let class = perhaps_moving(random, &shape);
     let sheet = bodies_of(&class, random.chance(50)).sheet();
     match shape.style {
-        Style::Anywhere if shape.statements.1 > 4 => good_of_kind(random, 3, sheet, &class),
+        Style::Anywhere if shape.statements.1 > 4 => {
+            let kind = random.pick(&[2, 3, 3, 3]);
+            good_of_kind(random, kind, sheet, &class)
+        }
         Style::Anywhere => good(random, sheet, &class),
         _ => {
             let kind = random.pick(&[1, 2, 2, 4, 4, 4]);
             good_of_kind(random, kind, sheet, &class)
         }
     }
+}
+
+/// A class of some shape; half of the time its moves are made by DOs.
+fn perhaps_moving(random: &mut Random, shape: &Shape) -> Class {
+    let manner = random.pick(&[ALL, MIXED]);
+    if random.chance(50) { moving_class(random, shape, &manner) } else { class(random, shape) }
+}
+
+/// A phase or a loop question about a class whose moves are made by DOs.
+fn moving(random: &mut Random) -> Question {
+    let shape = random.pick(&[SMALL, WHOLE, BUSY, LADDER, LADDER, LADDER, RING, RING, RING, CROWD]);
+    let manner = random.pick(&[ALL, ALL, MIXED, MIXED, DEEP, DEEP]);
+    let shape = Shape { states: (shape.states.0, shape.states.1.min(7)), always: random.pick(&[0, 40, 80]), ..shape };
+    let class = moving_class(random, &shape, &manner);
+    let sheet = bodies_of(&class, random.chance(50)).sheet();
+    match random.below(10) {
+        0..=3 => telling_phase(random, sheet, &class),
+        4 | 5 => good_of_kind(random, 2, sheet, &class),
+        6 => short_phase(random, sheet, &class),
+        _ => good_of_kind(random, 4, sheet, &class),
+    }
+}
+
+/// How much of a phase there is to be told; a loop counts as two moves.
+fn telling(class: &Class, list: &[u8], state: u8) -> (usize, usize) {
+    let children: Vec<Child> = list.chunks(2).map(|pair| (pair[0], pair[1])).collect();
+    match phase(class, &children, state) {
+        Phase::Settled { moves, sent, .. } => (moves, sent.len()),
+        Phase::Loop { .. } => (2, 0),
+    }
+}
+
+/// The phase that makes the most moves, of a few.
+fn telling_phase(random: &mut Random, sheet: Vec<u8>, class: &Class) -> Question {
+    let asked: Vec<(Vec<u8>, u8)> = (0..6).map(|_| (list(random, class), state(random, class))).collect();
+    let most = asked.into_iter().max_by_key(|(list, state)| telling(class, list, *state));
+    let (list, state) = most.unwrap_or_default();
+    phase_of(random, sheet, class, list, state)
 }
 
 /// A question about a sheet whose guards share records.
@@ -163,9 +210,9 @@ fn shifted(random: &mut Random) -> Question {
 /// A good sheet, but a question that breaks one or more of the rules 10 to 15.
 fn wrongly_asked(random: &mut Random) -> Question {
     let shape = random.pick(&[SMALL, WHOLE, BUSY]);
-    let class = class(random, &shape);
+    let class = perhaps_moving(random, &shape);
     let sheet = bodies_of(&class, true).sheet();
-    match random.below(12) {
+    match random.below(14) {
         0 | 1 => bad_input(random, &[10], sheet, &class),
         2 => bad_input(random, &[11], sheet, &class),
         3 => bad_input(random, &[12], sheet, &class),
@@ -176,6 +223,7 @@ fn wrongly_asked(random: &mut Random) -> Question {
         5 | 6 => absent_class(random, sheet, &class, NAMES_IN_PASSING),
         7 | 8 => too_many_names(random),
         9 => everyone(random, sheet, &class, true),
+        10 | 11 => short_phase(random, sheet, &class),
         _ => short_command(random, sheet, &class),
     }
 }
@@ -196,9 +244,7 @@ fn too_many_names(random: &mut Random) -> Question {
 fn twelve_names(random: &mut Random) -> Question {
     let total = random.between(7, 12);
     let shape = random.pick(&[RING, LADDER]);
-    let class = many_names(random, total, &Shape { states: (1, 4), depth: 2, ..shape });
-    let sheet = bodies_of(&class, true).sheet();
-    everyone(random, sheet, &class, false)
+    on_names(random, total, &Shape { states: (1, 4), depth: 2, ..shape })
 }
 
 /// A loop question on a class in which one configuration alone makes a loop, or makes the most moves.
@@ -252,13 +298,17 @@ fn heavy(random: &mut Random, turn: u64) -> Question {
         21 => brimful(random, LONGEST_LINE + 1),
         22 => brimful(random, FORMER_LONGEST_LINE),
         23 => brimful(random, FORMER_LONGEST_LINE + 1),
+        24..=31 => long_phase(random),
         _ => long_list(random),
     }
 }
 
 /// A loop question on exactly this many names.
 fn on_names(random: &mut Random, total: usize, shape: &Shape) -> Question {
-    let class = many_names(random, total, shape);
+    let mut class = many_names(random, total, shape);
+    if random.chance(50) {
+        by_do(random, shape.style, &MIXED, &mut class);
+    }
     let sheet = bodies_of(&class, true).sheet();
     everyone(random, sheet, &class, false)
 }
@@ -266,7 +316,8 @@ fn on_names(random: &mut Random, total: usize, shape: &Shape) -> Question {
 /// A loop question on many names whose answer is a small configuration, if it is a loop at all.
 fn early_loop(random: &mut Random, total: usize) -> Question {
     loop {
-        let class = many_names(random, total, &Shape { states: (2, 3), clauses: (2, 4), depth: 1, ..RING });
+        let mut class = many_names(random, total, &Shape { states: (2, 3), clauses: (2, 4), depth: 1, ..RING });
+        by_do(random, Style::Ring, &MIXED, &mut class);
         let first = |names: &Names| *names.iter().next().unwrap_or(&0);
         let lowest: Vec<Child> = class.children.iter().zip(0..).map(|(names, number)| (number, first(names))).collect();
         if matches!(phase(&class, &lowest, 0), Phase::Loop { .. }) {
@@ -294,9 +345,37 @@ fn long_list(random: &mut Random) -> Question {
     let list = children_of(random, &class, length);
     let state = random.below(class.states.len()) as u8;
     match random.below(5) {
-        0 => Question::Phase { sheet, list, state },
+        0 => long_phase_of(random, sheet, &class, list, state),
         _ => long_command(random, sheet, &class, list, state),
     }
+}
+
+/// A phase that sends much to many children, by many DOs: of a few, the one that sends most, or any.
+fn long_phase(random: &mut Random) -> Question {
+    let shape = random.pick(&[LADDER, LADDER, LADDER, RING]);
+    let shape = Shape { classes: (1, 2), states: (4, 10), clauses: (1, 1), always: 90, actions: (0, 0), ..shape };
+    let length = random.pick(&[4096, 4096, 4095, 1000]);
+    let tries = random.pick(&[1, 8, 8]);
+    let asked: Vec<(Class, Vec<u8>)> = (0..tries).map(|_| {
+        let class = moving_class(random, &shape, &Manner { percent: 90, ifs: 1, sends: 3 });
+        let list = children_of(random, &class, length);
+        (class, list)
+    }).collect();
+    let most = asked.into_iter().max_by_key(|(class, list)| room_of_phase(class, list, 0));
+    let Some((class, list)) = most else { return long_list(random) };
+    let sheet = bodies_of(&class, true).sheet();
+    long_phase_of(random, sheet, &class, list, 0)
+}
+
+/// A phase over many children, with just enough room for what it sends, now and then a byte less, or none.
+fn long_phase_of(random: &mut Random, sheet: Vec<u8>, class: &Class, list: Vec<u8>, state: u8) -> Question {
+    let room = room_of_phase(class, &list, state).unwrap_or(0);
+    let length = match random.below(10) {
+        0 => 0,
+        1 => room.saturating_sub(1),
+        _ => room,
+    };
+    Question::Phase { sheet, list, state, buffer: random.bytes(length.min(MOST_LENT)) }
 }
 
 /// A command to many children, with just enough room for it, or now and then a byte less.
@@ -308,10 +387,15 @@ fn long_command(random: &mut Random, sheet: Vec<u8>, class: &Class, list: Vec<u8
     Question::Command { sheet, list, state, command: asked, buffer: random.bytes(length) }
 }
 
-/// A line that is no question, or that is a different one by accident.
+/// A line that is no question, or that is a different one by accident; or a phase without a buffer, as it once was asked.
 fn bad_line(random: &mut Random) -> Vec<u8> {
     let class = class(random, &WHOLE);
     let sheet = bodies_of(&class, true).sheet();
+    if random.chance(10) {
+        let mut line = good_of_kind(random, 2, sheet, &class).line().into_bytes();
+        line.truncate(line.iter().rposition(|byte| *byte == b' ').unwrap_or(0));
+        return line;
+    }
     let line = good(random, sheet, &class).line().into_bytes();
     spoil_line(random, line)
 }

@@ -121,7 +121,7 @@ pub fn guard(random: &mut Random, children: &[Names], depth: usize) -> Guard {
 }
 
 /// A guard that is true of every list: all of the pattern's children are in names that they cannot but be in.
-fn true_guard(random: &mut Random, children: &[Names]) -> Guard {
+pub fn true_guard(random: &mut Random, children: &[Names]) -> Guard {
     let pattern = pattern(random, children.len());
     let names = match pattern {
         Pattern::Class(class) if random.chance(50) => children[usize::from(class)].clone(),

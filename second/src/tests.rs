@@ -51,8 +51,10 @@ fn loops_and_phases() {
     case(format!("loop {b} 1 aaaaaaaaaaaabb"), "free 1 aaaaaaaaaaaabb");
     case(format!("loop {A} 0 -"), "free 0 -");
     case(format!("loop {b} 0 -"), "free 1 -");
-    case(format!("phase {A} 0001 1"), "none 0 1");
-    case(format!("phase {A} 00000001 0"), "loop 0 2");
+    case(format!("phase {A} 0001 1 -"), "none 0 1 0 - -");
+    case(format!("phase {A} 0001 1 aabb"), "none 0 1 0 - aabb");
+    case(format!("phase {A} 00000001 0 -"), "loop 0 2 0 - -");
+    case(format!("phase {A} 00000001 0 aabb"), "loop 0 2 0 - aabb");
 }
 
 /// Cases 6 and 7: commands.

@@ -97,8 +97,8 @@ fn article_listing_3() {
     assert_eq!(read(&lent(&dotted, names, "", kin)), Err(Refusal { number: 16, place }));
     let whole = format!("{} state: HVMIXED", dotted.replace('.', ""));
     let done = read(&lent(&whole, names, "", kin)).unwrap();
-    let phase = format!("phase {} 00000101 0", hex(&done.sheet));
-    assert_eq!(answer_line(phase.as_bytes()), "loop 1 3");
+    let phase = format!("phase {} 00000101 0 -", hex(&done.sheet));
+    assert_eq!(answer_line(phase.as_bytes()), "loop 1 3 0 - -");
 }
 
 /// The places of 16.
