@@ -3,7 +3,8 @@
 use crate::answering::answer_line;
 use std::collections::BTreeMap;
 
-/// In a run of so many questions every refusal number must be hit this often: 1 to 15 by questions about sheets, 15 to 18 by texts.
+/// In a run of so many questions every refusal number must be hit this often: 1 to 15 by questions about sheets, 15 by phases alone as well,
+/// 15 to 18 by texts.
 const FLOOR: usize = 50;
 const FULL_RUN: usize = 20_000;
 const LAST_NUMBER: usize = 18;
@@ -19,6 +20,7 @@ struct Tally {
     answers: BTreeMap<String, usize>,
     refusals: [usize; LAST_NUMBER + 1],
     reading_refusals: [usize; LAST_NUMBER + 1],
+    short_phases: usize,
     differ: usize,
 }
 
@@ -54,6 +56,9 @@ fn answer_kind(question: &str, answer: &str) -> String {
         ("clause", _) => "probe: clause, stay".to_string(),
         ("handled", Some(&"0")) => "command: handled, nothing sent".to_string(),
         ("handled", _) => "command: handled, something sent".to_string(),
+        (word @ ("none" | "stay" | "do"), _) if question == "phase" => {
+            format!("phase: {word}, {} sent", if words[3] == "0" { "nothing" } else { "something" })
+        }
         (word, _) => format!("{question}: {word}"),
     }
 }
@@ -67,6 +72,7 @@ impl Tally {
             let number = rest.split(' ').next().and_then(|word| word.parse().ok()).unwrap_or(0);
             let refusals = if kind == "read" { &mut self.reading_refusals } else { &mut self.refusals };
             refusals[number] += 1;
+            self.short_phases += usize::from(kind == "phase" && number == 15);
         }
         *self.questions.entry(kind).or_default() += 1;
     }
@@ -96,6 +102,7 @@ impl Tally {
         for number in 1..=15 {
             println!("  {number:<34}{:>8}", self.refusals[number]);
         }
+        println!("  15 of phases{:>30}", self.short_phases);
         for number in 15..=LAST_NUMBER {
             println!("  {number:<2} of reading questions{:>19}", self.reading_refusals[number]);
         }
@@ -103,7 +110,7 @@ impl Tally {
 
     /// The refusal numbers that were hit too seldom.
     fn seldom(&self) -> Vec<usize> {
-        let few = (1..16).filter(|number| self.refusals[*number] < FLOOR);
+        let few = (1..16).filter(|number| self.refusals[*number] < FLOOR || *number == 15 && self.short_phases < FLOOR);
         few.chain((15..=LAST_NUMBER).filter(|number| self.reading_refusals[*number] < FLOOR)).collect()
     }
 }
