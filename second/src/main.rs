@@ -26,6 +26,7 @@ mod random;
 mod reading;
 mod shapes;
 mod tallying;
+mod tallying_phases;
 #[cfg(test)]
 mod tests;
 mod text;

@@ -4,6 +4,7 @@ use crate::examples::examples;
 use crate::lines::{Question, FORMER_LONGEST_LINE, LONGEST_LINE};
 use crate::lists::{CLASS_RECORD, NAME_RECORD};
 use crate::reading::{counts_of_text, deepest_if, operators_on_a_path, Lent};
+use crate::tallying_phases::{of_loop, of_phase};
 use crate::text::{rule_16, Guard, Kin, Name, Referrer, State, Statement, Text};
 use crate::words::{is_name, is_name_character, is_white, words_of, Word, END, FIXED, LONGEST_NAME, NAME, NOWHERE, RESERVED};
 use crate::writing::RECORD;
@@ -319,6 +320,8 @@ fn of_line(line: &[u8]) -> Vec<String> {
     let mut labels: Vec<String> = there.map(|length| format!("line of {length} bytes, {kind}")).collect();
     match Question::read(line) {
         Some(Question::Read(lent)) => labels.extend(of_reading(&lent)),
+        Some(Question::Phase { sheet, list, state, buffer }) => labels.extend(of_phase(&sheet, &list, state, &buffer)),
+        Some(Question::Loop { sheet, present, .. }) => labels.extend(of_loop(&sheet, present)),
         None => labels.push(format!("no question, {kind}")),
         _ => {}
     }
