@@ -205,8 +205,8 @@ pub fn short_command(random: &mut Random, sheet: Vec<u8>, class: &Class) -> Ques
     Question::Command { sheet, list, state, command, buffer: random.bytes(length) }
 }
 
-/// A when phase with too short a buffer for what it sends, where it sends something.
-pub fn short_phase(random: &mut Random, sheet: Vec<u8>, class: &Class) -> Question {
+/// The list, the state and too short a buffer of a when phase that sends something, where there is one.
+fn short_of_room(random: &mut Random, class: &Class) -> (Vec<u8>, u8, Vec<u8>) {
     let mut asked = (Vec::new(), 0, 0);
     for _ in 0..20 {
         let (list, state) = (list(random, class), state(random, class));
@@ -222,7 +222,21 @@ pub fn short_phase(random: &mut Random, sheet: Vec<u8>, class: &Class) -> Questi
         5 | 6 => 0,
         _ => random.below(room.max(1)),
     };
-    Question::Phase { sheet, list, state, buffer: random.bytes(length) }
+    (list, state, random.bytes(length))
+}
+
+/// A when phase with too short a buffer for what it sends; now and then with a wrong child behind the others, or a wrong state, as well.
+pub fn short_phase(random: &mut Random, sheet: Vec<u8>, class: &Class) -> Question {
+    let (mut list, mut state, buffer) = short_of_room(random, class);
+    let (classes, states) = (class.children.len() as u8, class.states.len() as u8);
+    let fault = random.below(12);
+    if fault < 2 {
+        list.extend_from_slice(random.pick(&[&[classes, 0][..], &[0, 32], &[0]]));
+    }
+    if fault == 1 || fault == 2 {
+        state += states * random.byte(1, 7);
+    }
+    Question::Phase { sheet, list, state, buffer }
 }
 
 /// A loop question with a present bit too many, where there is one, and no more names than this.

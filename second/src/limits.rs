@@ -34,15 +34,18 @@ pub fn nest(random: &mut Random, children: &[Names], depth: usize, states: usize
     list
 }
 
-/// A class with ifs that nest this deep.
+/// A class with ifs that nest this deep; often every phase in their state runs them.
 pub fn ifs_of_depth(random: &mut Random, depth: usize) -> Class {
     let mut class = class(random, &WHOLE);
     let (children, states) = (class.children.clone(), class.states.len());
     let at = random.below(states);
     let body = nest(random, &children, depth, states);
-    let actions = &mut class.states[at].actions;
-    let action = random.below(actions.len());
-    actions[action].body = body;
+    let state = &mut class.states[at];
+    let action = random.below(state.actions.len());
+    state.actions[action].body = body;
+    if random.chance(50) {
+        state.clauses.insert(0, Clause { guard: true_guard(random, &children), referrer: Referrer::Do(action as u8) });
+    }
     class
 }
 

@@ -89,11 +89,21 @@ fn moving(random: &mut Random) -> Question {
     let shape = Shape { states: (shape.states.0, shape.states.1.min(7)), always: random.pick(&[0, 40, 80]), ..shape };
     let class = moving_class(random, &shape, &manner);
     let sheet = bodies_of(&class, random.chance(50)).sheet();
-    match random.below(10) {
-        0..=3 => telling_phase(random, sheet, &class),
-        4 | 5 => good_of_kind(random, 2, sheet, &class),
-        6 => short_phase(random, sheet, &class),
+    match random.below(40) {
+        0 => large_phase(random),
+        1..=15 => telling_phase(random, sheet, &class),
+        16..=23 => good_of_kind(random, 2, sheet, &class),
+        24..=27 => short_phase(random, sheet, &class),
         _ => good_of_kind(random, 4, sheet, &class),
+    }
+}
+
+/// A phase about a large sheet.
+fn large_phase(random: &mut Random) -> Question {
+    let sheet = large(random).sheet();
+    match judge(&sheet) {
+        Ok(class) => telling_phase(random, sheet, &class),
+        Err(_) => Question::Judge { sheet },
     }
 }
 
@@ -130,7 +140,7 @@ fn near_limit(random: &mut Random) -> Question {
         _ => { let depth = random.pick(&[7, 8, 8, 8, 9]); ifs_of_depth(random, depth) }
     };
     let sheet = bodies_of(&class, random.chance(50)).sheet();
-    let kind = random.pick(&[0, 1, 2, 3, 3, 3]);
+    let kind = random.pick(&[0, 1, 2, 2, 3, 3, 4]);
     good_of_kind(random, kind, sheet, &class)
 }
 
@@ -298,7 +308,9 @@ fn heavy(random: &mut Random, turn: u64) -> Question {
         21 => brimful(random, LONGEST_LINE + 1),
         22 => brimful(random, FORMER_LONGEST_LINE),
         23 => brimful(random, FORMER_LONGEST_LINE + 1),
-        24..=31 => long_phase(random),
+        24 => brimful_phase(random, LONGEST_LINE),
+        25 => brimful_phase(random, LONGEST_LINE + 1),
+        26..=33 => long_phase(random),
         _ => long_list(random),
     }
 }
@@ -337,6 +349,16 @@ fn brimful(random: &mut Random, length: usize) -> Question {
     Question::Loop { sheet, present, buffer }
 }
 
+/// A phase on a line of this length; the hyphen of an empty list makes it odd.
+fn brimful_phase(random: &mut Random, length: usize) -> Question {
+    let class = moving_class(random, &Shape { states: (2, 6), ..LADDER }, &ALL);
+    let sheet = bodies_of(&class, true).sheet();
+    let list = if length % 2 == 0 { children_of(random, &class, 9) } else { Vec::new() };
+    let bare = Question::Phase { sheet: sheet.clone(), list: list.clone(), state: 0, buffer: vec![0] }.line().len() - 2;
+    let buffer = random.bytes((length - bare) / 2);
+    Question::Phase { sheet, list, state: 0, buffer }
+}
+
 /// A question with as many children as there may be, or with places of more than one byte.
 fn long_list(random: &mut Random) -> Question {
     let class = class(random, &Shape { statements: (1, 3), actions: (1, 2), ..WHOLE });
@@ -357,7 +379,7 @@ fn long_phase(random: &mut Random) -> Question {
     let length = random.pick(&[4096, 4096, 4095, 1000]);
     let tries = random.pick(&[1, 8, 8]);
     let asked: Vec<(Class, Vec<u8>)> = (0..tries).map(|_| {
-        let class = moving_class(random, &shape, &Manner { percent: 90, ifs: 1, sends: 3 });
+        let class = moving_class(random, &shape, &Manner { percent: 90, sends: 3, ..ALL });
         let list = children_of(random, &class, length);
         (class, list)
     }).collect();

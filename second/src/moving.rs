@@ -11,14 +11,16 @@ pub struct Manner {
     pub percent: usize,
     /// At most so many ifs lie round a move_to.
     pub ifs: usize,
+    /// So many of these ifs in a hundred lead to it on every list.
+    pub sure: usize,
     /// At most so many commands are sent before and behind a move_to, and before each if.
     pub sends: usize,
 }
 
 /// Nothing but DOs, or a mix; few ifs or many.
-pub const ALL: Manner = Manner { percent: 100, ifs: 1, sends: 2 };
-pub const MIXED: Manner = Manner { percent: 50, ifs: 2, sends: 2 };
-pub const DEEP: Manner = Manner { percent: 80, ifs: 8, sends: 1 };
+pub const ALL: Manner = Manner { percent: 100, ifs: 1, sure: 50, sends: 2 };
+pub const MIXED: Manner = Manner { percent: 50, ifs: 2, sure: 50, sends: 2 };
+pub const DEEP: Manner = Manner { percent: 80, ifs: 8, sure: 80, sends: 1 };
 
 /// What an action clause is made for.
 struct Way<'a> {
@@ -26,18 +28,19 @@ struct Way<'a> {
     target: u8,
     /// Where a move_to may lead that is not the one meant.
     astray: Vec<u8>,
-    sends: usize,
+    manner: &'a Manner,
 }
 
 /// Up to so many commands to some children.
 pub fn sends(random: &mut Random, children: &[Names], most: usize) -> Vec<Statement> {
     let count = random.below(most + 1);
-    (0..count).map(|_| Statement::Send { command: random.byte(0, 63), pattern: pattern(random, children.len()) }).collect()
+    let last = random.pick(&[7, 63]);
+    (0..count).map(|_| Statement::Send { command: random.byte(0, last), pattern: pattern(random, children.len()) }).collect()
 }
 
 /// What stands in the other part of an if: nothing, commands, a move elsewhere, or the same move.
 fn beside(random: &mut Random, way: &Way) -> Vec<Statement> {
-    let mut list = sends(random, way.children, way.sends);
+    let mut list = sends(random, way.children, way.manner.sends);
     match random.below(10) {
         0..=3 => list.clear(),
         4..=6 => {}
@@ -47,9 +50,9 @@ fn beside(random: &mut Random, way: &Way) -> Vec<Statement> {
     list
 }
 
-/// An if between two parts, in any order; half of the time it takes the first of them on every list.
-fn branch(random: &mut Random, children: &[Names], meant: Vec<Statement>, beside: Vec<Statement>) -> Statement {
-    let guard = if random.chance(50) { true_guard(random, children) } else { guard(random, children, 1) };
+/// An if between two parts, in any order; often it takes the first of them on every list.
+fn branch(random: &mut Random, way: &Way, meant: Vec<Statement>, beside: Vec<Statement>) -> Statement {
+    let guard = if random.chance(way.manner.sure) { true_guard(random, way.children) } else { guard(random, way.children, 1) };
     match random.below(2) {
         0 => Statement::If { guard, then: meant, other: beside },
         _ => Statement::If { guard: Guard::Not(Box::new(guard)), then: beside, other: meant },
@@ -58,15 +61,15 @@ fn branch(random: &mut Random, children: &[Names], meant: Vec<Statement>, beside
 
 /// Statements with a move_to inside so many ifs, commands before and behind it.
 fn lead(random: &mut Random, way: &Way, ifs: usize) -> Vec<Statement> {
-    let mut list = sends(random, way.children, way.sends);
+    let mut list = sends(random, way.children, way.manner.sends);
     if ifs == 0 {
         list.push(Statement::MoveTo(way.target));
     } else {
         let (inner, beside) = (lead(random, way, ifs - 1), beside(random, way));
-        list.push(branch(random, way.children, inner, beside));
+        list.push(branch(random, way, inner, beside));
     }
     if random.chance(50) {
-        list.extend(sends(random, way.children, way.sends));
+        list.extend(sends(random, way.children, way.manner.sends));
     }
     if random.chance(15) {
         list.push(Statement::MoveTo(random.pick(&way.astray)));
@@ -75,7 +78,7 @@ fn lead(random: &mut Random, way: &Way, ifs: usize) -> Vec<Statement> {
 }
 
 /// A command that the state has no clause for.
-pub fn free_command(random: &mut Random, state: &State) -> u8 {
+fn free_command(random: &mut Random, state: &State) -> u8 {
     let free: Vec<u8> = (0..64).filter(|command| state.actions.iter().all(|action| action.command != *command)).collect();
     random.pick(&free)
 }
@@ -93,23 +96,25 @@ pub fn add_action(random: &mut Random, state: &mut State, body: Vec<Statement>) 
     at as u8
 }
 
-/// Turns MOVE_TOs of a class into DOs, and some of its STAYs into DOs that close the phase.
+/// The statements of an action clause that does what a MOVE_TO did; now and then it leads to the own state, but not where moves go upwards.
+fn instead(random: &mut Random, style: Style, manner: &Manner, class: &Class, here: u8, target: u8) -> Vec<Statement> {
+    let target = if style != Style::Upwards && random.chance(6) { here } else { target };
+    let first = if style == Style::Upwards { target } else { 0 };
+    let way = Way { children: &class.children, target, astray: (first..class.states.len() as u8).collect(), manner };
+    let ifs = random.below(manner.ifs + 1);
+    lead(random, &way, ifs)
+}
+
+/// Turns MOVE_TOs of a class into DOs, and some of its STAYs into DOs that close the phase; some of them run a clause that was there.
 pub fn by_do(random: &mut Random, style: Style, manner: &Manner, class: &mut Class) {
-    let count = class.states.len() as u8;
-    for here in 0..count {
-        let state = &mut class.states[usize::from(here)];
-        for clause in 0..state.clauses.len() {
-            let body = match state.clauses[clause].referrer {
-                Referrer::MoveTo(target) if random.chance(manner.percent) => {
-                    let target = if style != Style::Upwards && random.chance(6) { here } else { target };
-                    let first = if style == Style::Upwards { target } else { 0 };
-                    let way = Way { children: &class.children, target, astray: (first..count).collect(), sends: manner.sends };
-                    let ifs = random.below(manner.ifs + 1);
-                    lead(random, &way, ifs)
-                }
+    for here in 0..class.states.len() {
+        for clause in 0..class.states[here].clauses.len() {
+            let body = match class.states[here].clauses[clause].referrer {
+                Referrer::MoveTo(target) if random.chance(manner.percent) => instead(random, style, manner, class, here as u8, target),
                 Referrer::Stay if random.chance(40) => sends(random, &class.children, manner.sends),
                 _ => continue,
             };
+            let state = &mut class.states[here];
             let number = if !state.actions.is_empty() && random.chance(15) {
                 random.below(state.actions.len()) as u8
             } else {
