@@ -321,7 +321,7 @@ fn of_line(line: &[u8]) -> Vec<String> {
     match Question::read(line) {
         Some(Question::Read(lent)) => labels.extend(of_reading(&lent)),
         Some(Question::Phase { sheet, list, state, buffer }) => labels.extend(of_phase(&sheet, &list, state, &buffer)),
-        Some(Question::Loop { sheet, present, .. }) => labels.extend(of_loop(&sheet, present)),
+        Some(Question::Loop { sheet, present, buffer }) => labels.extend(of_loop(&sheet, present, &buffer)),
         None => labels.push(format!("no question, {kind}")),
         _ => {}
     }

@@ -170,11 +170,11 @@ fn emptied(class: &Class) -> Class {
     class
 }
 
-/// What a loop question asks.
-pub fn of_loop(sheet: &[u8], present: u8) -> Vec<String> {
+/// What a loop question asks that is answered.
+pub fn of_loop(sheet: &[u8], present: u8, buffer: &[u8]) -> Vec<String> {
     let Ok(class) = judge(sheet) else { return Vec::new() };
     let pairs = pairs(&class, present);
-    if u32::from(present) >> class.children.len() > 0 || pairs.len() > MOST_NAMES {
+    if u32::from(present) >> class.children.len() > 0 || pairs.len() > MOST_NAMES || buffer.len() < 2 * pairs.len() {
         return Vec::new();
     }
     let answer = ask(&class, &pairs);

@@ -1,7 +1,8 @@
 //! The worked cases of the paper, phases and loops with DOs that were worked out by hand, and trees that come back from their sheets.
 
 use crate::answering::answer_line;
-use crate::behaviour::{phase, Child, Phase};
+use crate::asking::list;
+use crate::behaviour::{phase, step, Child, Phase, Step};
 use crate::examples::about;
 use crate::judging::judge;
 use crate::limits::{counted, guards_of_depth, ifs_of_depth, MOST};
@@ -10,7 +11,7 @@ use crate::loops::{ask, pairs, Answer};
 use crate::moving::{moving_class, ALL, DEEP, MIXED};
 use crate::random::Random;
 use crate::reading::{read, Lent};
-use crate::shapes::{class, Shape, BUSY, CROWD, LADDER, RING, SMALL, WHOLE};
+use crate::shapes::{class, Shape, BUSY, CROWD, LADDER, RING, ROUND, SMALL, TALL, WHOLE};
 use crate::tree::Class;
 use crate::writing::bodies_of;
 
@@ -333,6 +334,32 @@ fn loops_are_phases_that_loop() {
         loops += usize::from(expected.is_err());
     }
     assert!((300..1200).contains(&loops));
+}
+
+/// A when phase as the paper has it: S moves, one after the other, and then no more.
+fn counted_off(class: &Class, children: &[Child], start: u8) -> Phase {
+    let (mut here, mut sent) = (start, Vec::new());
+    for moves in 0..class.states.len() {
+        match step(class, children, here, &mut sent) {
+            Step::Move(next) => here = next,
+            Step::End(ending) => return Phase::Settled { ending, state: here, moves, sent },
+        }
+    }
+    Phase::Loop { state: here, moves: class.states.len() }
+}
+
+/// A walk that stops where it has been before says what S moves say.
+#[test]
+fn phases_counted_off() {
+    for index in 0..3000 {
+        let random = &mut Random::for_question(10, index);
+        let (shape, manner) = (random.pick(&[SMALL, LADDER, RING, TALL, ROUND]), random.pick(&[ALL, MIXED]));
+        let class = moving_class(random, &shape, &manner);
+        let children: Vec<Child> = list(random, &class).chunks(2).map(|pair| (pair[0], pair[1])).collect();
+        for start in 0..class.states.len() as u8 {
+            assert_eq!(phase(&class, &children, start), counted_off(&class, &children, start), "{index}");
+        }
+    }
 }
 
 /// A phase's line has four fields behind its word.
