@@ -7,7 +7,7 @@ use mathlib.Core.Bool.{Bool, true, false, not}
 use mathlib.Core.List.{List}
 use lib.Dec.{ltb}
 use lib.ListN.{length}
-use borrow.Author.Tests.{lt-ltb, le-ltb}
+use borrow.Author.Tests.{lt-ltb, le-ltb, ltb-true}
 use Rattle.model.specs.Words.{choose}
 use Rattle.model.specs.Tree.{Class}
 use Rattle.model.specs.Node.{own-states}
@@ -69,6 +69,16 @@ placed-list c l q e = go (list-right c l) refl e
     go true f e = f
     go false f e = absurd (omega arith)
 
+-- and of the state
+pub placed-state : (c : Class) (l : List ℕ) (q : ℕ) → 0 ≡ placed-refusal c l q → q < own-states c
+unfolding placed-refusal
+placed-state c l q e = go (list-right c l) (ltb q (own-states c)) refl e
+  where
+    go : (t u : Bool) → ltb q (own-states c) ≡ u → _≡_ {A = ℕ} 0 (choose t (λ _. choose u (λ _. 0) (λ _. 11)) (λ _. 10)) → q < own-states c
+    go true true f e = ltb-true q (own-states c) f
+    go true false f e = absurd (omega arith)
+    go false u f e = absurd (omega arith)
+
 -- what the check of both answered, for every question that begins with it
 module _ (b : List ℕ) (p : Places) (s : Stands b p) (l : List ℕ) (q : ℕ) (r : Placing) (e : placing-number r ≡ placed-refusal (class-of b) l q) where
   pub not-fitting : {A : Type 0} (x : Refusal) → r ≡ Refused x → (rest : Class → Reply A) → placed b l q rest ≡ refuse (number-of x)
@@ -83,6 +93,10 @@ module _ (b : List ℕ) (p : Places) (s : Stands b p) (l : List ℕ) (q : ℕ) (
 
     pub right-list : list-right (class-of b) l ≡ true
     right-list = placed-list (class-of b) l q none
+
+    pub asked-low : q < in-fours (body b 1)
+    unfolding class-of bodies
+    asked-low = omega (arith, own-states-in (bodies b), placed-state (class-of b) l q none)
 
     -- the crew of the list
     pub crew : (sets : List ℕ) → length sets ≡ 8 → Shows sets (children-of l) → Crewed sets (children-of l)

@@ -5,11 +5,11 @@ use mathlib.Core.Path.{_≡_, refl}
 use mathlib.Core.Bool.{true}
 use mathlib.Core.List.{List, [], _∷_}
 use mathlib.Core.Option.{none, some}
-use Rattle.model.specs.Tree.{Child, everyone, of-class, send, go-to, branch, end, _then_, any-in, any-not-in, all-in, atom, move-to, stay, Referrer, When, Class}
+use Rattle.model.specs.Tree.{Child, everyone, of-class, send, go-to, branch, Part, end, _then_, any-in, any-not-in, all-in, atom, move-to, run, stay, Referrer, When, State, Class}
 use Rattle.model.specs.Guards.{holds}
 use Rattle.model.specs.Moves.{Returns}
-use Rattle.model.specs.Node.{found, probe, next, loops, phase}
-use Rattle.model.specs.Running.{sent-to, run-part}
+use Rattle.model.specs.Node.{found, probe, by-do, next, settled, loops, phase}
+use Rattle.model.specs.Running.{Sent, sent-to, run-part}
 use Rattle.model.specs.Replies.{refuse, give, buffer-after}
 use Rattle.model.proofs.Computing.{computing}
 
@@ -61,6 +61,33 @@ place-in-list = refl
 pub move-ends-clause : run-part (branch (atom any-not-in everyone 2) (go-to 1 then end) end then send 5 everyone then end) heater-and-pump ≡ record { sent = []; moved = some 1 }
 unfolding computing heater-and-pump
 move-ends-clause = refl
+
+-- a state that runs its one action clause where any child is not in HOT; the clause has this command and body
+unfoldable pub doing : ℕ → Part → State
+doing m p = record { whens = record { guard = atom any-not-in everyone 2; referrer = run 0 } ∷ []; actions = record { command = m; body = p } ∷ [] }
+
+-- a command sent
+unfoldable pub told : ℕ → ℕ → Sent
+told i m = record { place = i; command = m }
+
+-- a DO that sends 4, moves to state 1, and would then send 5; there a DO that sends 6 and reaches no move_to
+unfoldable pub moves-by-do : Class
+moves-by-do = record { children = []; states = doing 9 (send 4 everyone then go-to 1 then send 5 everyone then end) ∷ doing 7 (send 6 everyone then end) ∷ [] }
+
+-- the first DO moves the node, and that is one move; the second ends the phase and is named; what both sent stands in order, and nothing from
+-- behind the move_to that was reached
+pub do-moves-on : (next moves-by-do heater-and-pump 0 ≡ some 1)
+    × (phase moves-by-do heater-and-pump 0 ≡ settled (by-do 7) 1 1 (told 0 4 ∷ told 1 4 ∷ told 0 6 ∷ told 1 6 ∷ []))
+unfolding computing heater-and-pump doing told moves-by-do
+do-moves-on = (refl, refl)
+
+-- a DO that moves to the own state is a move: the phase loops, and sends nothing
+unfoldable pub returns-by-do : Class
+returns-by-do = record { children = []; states = doing 9 (send 4 everyone then go-to 0 then end) ∷ [] }
+
+pub do-to-itself : Returns (next returns-by-do heater-and-pump) 0 × (phase returns-by-do heater-and-pump 0 ≡ loops 0 1)
+unfolding computing heater-and-pump doing told returns-by-do
+do-to-itself = ((0, refl), refl)
 
 -- what is given is written at the buffer's head, and the bytes behind it are kept; a refusal leaves the buffer as it was
 pub buffers : (buffer-after {A = ℕ} (give 0 (1 ∷ 2 ∷ [])) (7 ∷ 8 ∷ 9 ∷ []) ≡ 1 ∷ 2 ∷ 9 ∷ []) × (buffer-after {A = ℕ} (refuse 15) (7 ∷ 8 ∷ []) ≡ 7 ∷ 8 ∷ [])

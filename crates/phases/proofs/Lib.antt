@@ -1,3 +1,4 @@
+pub mod Errors
 pub mod TurnLaws
 pub mod WalkLaws
 pub mod PhasingLaws

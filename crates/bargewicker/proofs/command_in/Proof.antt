@@ -37,7 +37,7 @@ handle-requires c κs =
     let e = o .before .before .before .before .place .ensures in
     let t = o .before .before .enum-told .given .1 in
     let n : length (o .occupy .result) ≡ 8 = omega arith in
-    (s .pre, (crew _ _ (s .pre) _ _ _ e t _ n (o .occupy .ensures), list-short _ (s .pre .accepted) _ (right-list _ _ (s .pre) _ _ _ e t)))
+    (s .pre, record { crewed = crew _ _ (s .pre) _ _ _ e t _ n (o .occupy .ensures); short = list-short _ (s .pre .accepted) _ (right-list _ _ (s .pre) _ _ _ e t) })
 
 returns-3 : tie.Need-returns-3
 returns-3 c =
