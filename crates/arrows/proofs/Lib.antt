@@ -1,4 +1,4 @@
-pub mod SortingLaws
 pub mod LevelLaws
+pub mod SortingLaws
 pub mod Steps
 pub mod Unique

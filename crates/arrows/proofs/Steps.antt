@@ -1,144 +1,131 @@
--- From words to moves: where the words of the clauses' guards are their truths, the sorted words are the tree's next moves, and the levels
--- say how many moves can be made.
+-- From words to moves: where the words of the clauses' guards are their truths, each clause aims where its referrer says and the action clauses
+-- read as the class's, a word leads where the tree's next move does, and the levels say how many moves can be made.
 -- Assumes nothing.
-use Prim.Native.Nat.{ℕ, zero, suc, _+_, _-_, _<_}
+use Prim.Native.Nat.{ℕ, zero, suc, _+_, _-_, _*_, _%_, _<_, _≤_}
 use native.Mathlib.Omega.{arith}
 use mathlib.Core.Path.{_≡_, refl, sym, ap, _∙_}
 use mathlib.Core.Bool.{Bool, true, false, _&&_, and-true}
 use mathlib.Core.List.{List, [], _∷_}
+use mathlib.Core.Logic.{inl, inr}
 use mathlib.Core.Option.{Option, none, some}
-use lib.Dec.{eqb, ltb}
+use lib.Dec.{eqb}
 use lib.ListN.{length, getD}
-use borrow.Author.Tests.{eq-eqb, eqb-true, lt-ltb, ltb-true, ne-eqb}
+use borrow.Author.Tests.{eq-eqb, eqb-true, lt-ltb, le-ltb}
 use Rattle.model.specs.Words.{has, choose, maybe, is-some, some-below}
-use Rattle.model.specs.Tree.{Child, Referrer, move-to, run, stay, When, Class}
+use Rattle.model.specs.Tree.{Child, Referrer, move-to, run, stay, When, Part, Class}
 use Rattle.model.specs.Guards.{holds}
 use Rattle.model.specs.Moves.{Next, after, can, is-at, Within}
-use Rattle.model.specs.Node.{state-of, found, first-true, probe, turn-for, turn, moved, next}
+use Rattle.model.specs.Node.{state-of, found, first-true, probe, action-of, next}
+use Rattle.model.specs.Running.{goes}
 use Rattle.model.proofs.Words.{clash, both-ways, and-left, and-right, and-both, some-below-intro, some-below-elim}
-use Rattle.lanes.specs.Lanes.{Lanes}
-use Rattle.arrows.specs.Sorting.{aim, leads, move-word, Aims}
-use Rattle.arrows.specs.Levels.{moves-on, lane-can}
+use Rattle.model.proofs.NodeLaws.{led, next-by}
+use Rattle.sweeps.specs.Sweeps.{move-word}
+use Rattle.arrows.specs.Sorting.{aim, taken, leads-to, taken-from, Own}
+use Rattle.arrows.specs.Levels.{lane-can}
 
--- clauses from clause m on, in one lane: the words of their guards are their truths, and their targets are where they move
-pub record Told (places targets words : List ℕ) (i : ℕ) (ks : List Child) (m : ℕ) (w : When) : Type 0 where
+-- a referrer of state q, whose action clauses stand from first to last: its target is a state, or the action clause that it runs is this part
+abbrev pub Fits : (ℕ → Part) → Class → ℕ → ℕ → ℕ → Referrer → Type 0
+Fits p c q first last (move-to t) = t < 32
+Fits p c q first last (run a) = (first + a < last) × (p (first + a) ≡ action-of c q a .body)
+Fits p c q first last stay = Unit {0}
+
+-- clause m, in one lane: the word of its guard is its truth, and it aims where its referrer says
+pub record Told (places aims words : List ℕ) (i : ℕ) (ks : List Child) (p : ℕ → Part) (c : Class) (q first last m : ℕ) (w : When) : Type 0 where
   pub truth : has (getD words (getD places m 0) 0) i ≡ holds (w .guard) ks
-  pub target : getD targets m 0 ≡ aim (w .referrer)
+  pub aimed : getD aims m 0 ≡ aim q first (w .referrer)
+  pub fits : Fits p c q first last (w .referrer)
 
-module _ (places targets words : List ℕ) (i : ℕ) (ks : List Child) (d : When) (c : Class) (q : ℕ) where
-  -- the first true one leads where the phase's turn does
-  pub leads-first : (t : ℕ) → t < 255 → (k m : ℕ) (ws : List When) → ((j a : ℕ) → a ≡ m + j → j < length ws → Told places targets words i ks a (getD ws j d))
-      → leads places targets words t m (length ws) i ≡ is-at t (moved (turn-for c q (first-true ks k ws)))
-  unfolding leads first-true turn-for
-  leads-first t tl k m [] h = refl
-  leads-first t tl k m (w ∷ ws) h =
+-- it aims at a word of its state
+pub own-aim : (actions : List ℕ) (p : ℕ → Part) (c : Class) (q : ℕ) (r : Referrer) → Fits p c q (getD actions q 0) (getD actions (q + 1) 0) r → Own actions q (aim q (getD actions q 0) r)
+own-aim actions p c q (move-to t) f = inl (t, f, refl)
+own-aim actions p c q (run a) f = inr (inl (getD actions q 0 + a, omega arith, f .0, refl))
+own-aim actions p c q stay f = inr (inr (omega arith))
+
+module _ (places aims words : List ℕ) (i : ℕ) (ks : List Child) (p : ℕ → Part) (d : When) (c : Class) (q first last : ℕ) (ql : q < 32) (most : last ≤ 256) where
+  -- that word leads where its referrer does
+  aim-leads : (k : ℕ) (r : Referrer) → Fits p c q first last r → leads-to p ks (aim q first r) ≡ led c ks q (found k r)
+  aim-leads k (move-to t) f =
+      let lo : q * 32 + t < 1024 = omega arith in
+      let v : (q * 32 + t) % 32 ≡ t = omega arith in
+      rw (lt-ltb (q * 32 + t) 1024 lo, v)
+  aim-leads k (run a) f =
+      let l = f .0 in
+      let hi : 1024 ≤ 1024 + (first + a) = omega arith in
+      let lo : 1024 + (first + a) < 1280 = omega arith in
+      let v : 1024 + (first + a) - 1024 ≡ first + a = omega arith in
+      rw (le-ltb (1024 + (first + a)) 1024 hi, lt-ltb (1024 + (first + a)) 1280 lo, v, f .1)
+  aim-leads k stay f = refl
+
+  -- so the first true clause leads where the probe does
+  taken-first : (k m : ℕ) (ws : List When) → ((j a : ℕ) → a ≡ m + j → j < length ws → Told places aims words i ks p c q first last a (getD ws j d))
+      → leads-to p ks (taken places aims words m (length ws) i) ≡ led c ks q (first-true ks k ws)
+  unfolding taken first-true
+  taken-first k m [] h = refl
+  taken-first k m (w ∷ ws) h =
       let T = h 0 m (omega arith) (omega arith) in
-      go (holds (w .guard) ks) (w .referrer) (T .truth) (T .target) (leads-first t tl (k + 1) (suc m) ws (λ j a e l. h (suc j) a (omega arith) (omega arith)))
+      go (holds (w .guard) ks) (w .referrer) (T .truth) (T .aimed) (T .fits) (taken-first (k + 1) (suc m) ws (λ j a e l. h (suc j) a (omega arith) (omega arith)))
     where
-      aimed : (r : Referrer) → getD targets m 0 ≡ aim r → eqb (getD targets m 0) t ≡ is-at t (moved (turn-for c q (found k r)))
-      aimed (move-to x) e = ap (λ (y : ℕ). eqb y t) e
-      aimed (run a) e = ne-eqb (getD targets m 0) t (λ z. omega arith)
-      aimed stay e = ne-eqb (getD targets m 0) t (λ z. omega arith)
+      go : (b : Bool) (r : Referrer) → has (getD words (getD places m 0) 0) i ≡ b → getD aims m 0 ≡ aim q first r → Fits p c q first last r
+          → leads-to p ks (taken places aims words (suc m) (length ws) i) ≡ led c ks q (first-true ks (k + 1) ws)
+          → leads-to p ks (choose (has (getD words (getD places m 0) 0) i) (λ _. getD aims m 0) (λ _. taken places aims words (suc m) (length ws) i))
+          ≡ led c ks q (choose b (λ _. found k r) (λ _. first-true ks (k + 1) ws))
+      go true r e f g h = rw e (ap (leads-to p ks) f ∙ aim-leads k r g)
+      go false r e f g h = rw e h
 
-      go : (b : Bool) (r : Referrer) → has (getD words (getD places m 0) 0) i ≡ b → getD targets m 0 ≡ aim r
-          → leads places targets words t (suc m) (length ws) i ≡ is-at t (moved (turn-for c q (first-true ks (k + 1) ws)))
-          → choose (has (getD words (getD places m 0) 0) i) (λ _. eqb (getD targets m 0) t) (λ _. leads places targets words t (suc m) (length ws) i)
-          ≡ is-at t (moved (turn-for c q (choose b (λ _. found k r) (λ _. first-true ks (k + 1) ws))))
-      go true r e f h = rw e (aimed r f)
-      go false r e f h = rw e h
-
-  -- and a move that it makes is that of a clause
-  pub moved-by : (t k m : ℕ) (ws : List When) → ((j a : ℕ) → a ≡ m + j → j < length ws → Told places targets words i ks a (getD ws j d))
-      → moved (turn-for c q (first-true ks k ws)) ≡ some t → (j : ℕ) × (j < length ws) × (getD targets (m + j) 0 ≡ t)
-  unfolding first-true turn-for
-  moved-by t k m [] h e = absurd (clash (cc))
-  moved-by t k m (w ∷ ws) h e =
-      let T = h 0 m (omega arith) (omega arith) in
-      go (holds (w .guard) ks) (w .referrer) (T .target) e (moved-by t (k + 1) (suc m) ws (λ j a e l. h (suc j) a (omega arith) (omega arith)))
-    where
-      go : (b : Bool) (r : Referrer) → getD targets m 0 ≡ aim r → moved (turn-for c q (choose b (λ _. found k r) (λ _. first-true ks (k + 1) ws))) ≡ some t
-          → (moved (turn-for c q (first-true ks (k + 1) ws)) ≡ some t → (j : ℕ) × (j < length ws) × (getD targets (suc m + j) 0 ≡ t))
-          → (j : ℕ) × (j < suc (length ws)) × (getD targets (m + j) 0 ≡ t)
-      go true (move-to x) f e h = let z : m + 0 ≡ m = omega arith in (0, omega arith, rw z (f ∙ (let y : x ≡ t = cc in y)))
-      go true (run a) f e h = absurd (clash (cc))
-      go true stay f e h = absurd (clash (cc))
-      go false r f e h = let (j, l, u) = h e in let z : m + suc j ≡ suc m + j = omega arith in (suc j, omega arith, rw z u)
-
--- the clauses of state q stand from first to last
-module _ (places targets words : List ℕ) (i : ℕ) (ks : List Child) (d : When) (c : Class) (q first last : ℕ)
-    (long : last - first ≡ length (state-of c q .whens))
-    (told : (j a : ℕ) → a ≡ first + j → j < length (state-of c q .whens) → Told places targets words i ks a (getD (state-of c q .whens) j d)) where
-  pub leads-next : (t : ℕ) → t < 255 → leads places targets words t first (last - first) i ≡ is-at t (next c ks q)
-  unfolding next turn probe
-  leads-next t l = rw long (leads-first places targets words i ks d c q t l 0 first (state-of c q .whens) told)
-
-  pub next-aims : (s t : ℕ) → t < s → next c ks q ≡ some t → (m : ℕ) × Aims targets s first last m t
-  unfolding next turn probe
-  next-aims s t l e =
-      let (j, u, f) = moved-by places targets words i ks d c q t 0 first (state-of c q .whens) told e in
-      (first + j, record { from = omega arith; below = omega (arith, long); small = l; target = f })
+-- the clauses of state q stand where the firsts say: the word that they take a lane to leads where the next move does
+pub leads-next : (places aims firsts words : List ℕ) (i : ℕ) (ks : List Child) (p : ℕ → Part) (d : When) (c : Class) (q first last : ℕ) → q < 32 → last ≤ 256
+    → getD firsts (q + 1) 0 - getD firsts q 0 ≡ length (state-of c q .whens)
+    → ((j a : ℕ) → a ≡ getD firsts q 0 + j → j < length (state-of c q .whens) → Told places aims words i ks p c q first last a (getD (state-of c q .whens) j d))
+    → leads-to p ks (taken-from places aims firsts words q i) ≡ next c ks q
+unfolding probe
+leads-next places aims firsts words i ks p d c q first last ql most long told =
+    rw long (taken-first places aims words i ks p d c q first last ql most 0 (getD firsts q 0) (state-of c q .whens) told ∙ sym (next-by c ks q))
 
 -- the words of the moves are those of a step in each lane
-pub record Steps (targets firsts : List ℕ) (s : ℕ) (moves : List ℕ) (counted : ℕ) (step : ℕ → Next) : Type 0 where
+pub record Steps (s : ℕ) (table : List ℕ) (counted : ℕ) (step : ℕ → Next) : Type 0 where
   pub within : (i : ℕ) → i < 64 → Within (step i) s
-  pub word : (q : ℕ) → q < s → (m t : ℕ) → Aims targets s (getD firsts q 0) (getD firsts (q + 1) 0) m t → Lanes (move-word moves q t) (λ i. has counted i && is-at t (step i q))
-  pub aimed : (i q t : ℕ) → i < 64 → q < s → step i q ≡ some t → (m : ℕ) × Aims targets s (getD firsts q 0) (getD firsts (q + 1) 0) m t
+  pub word : (q t i : ℕ) → q < s → t < s → i < 64 → has (move-word table q t) i ≡ (has counted i && is-at t (step i q))
 
 -- so the levels say how many moves can be made
-module _ (targets firsts : List ℕ) (s : ℕ) (moves : List ℕ) (counted : ℕ) (step : ℕ → Next) (S : Steps targets firsts s moves counted step) where
-  one-step : (n q i : ℕ) → q < s → i < 64 → ((t : ℕ) → t < s → lane-can targets firsts s moves counted n t i ≡ (has counted i && can (step i) n t))
-      → lane-can targets firsts s moves counted (suc n) q i ≡ (has counted i && can (step i) (suc n) q)
+module _ (s : ℕ) (table : List ℕ) (counted : ℕ) (step : ℕ → Next) (S : Steps s table counted step) where
+  one-step : (n q i : ℕ) → q < s → i < 64 → ((t : ℕ) → t < s → lane-can s table counted n t i ≡ (has counted i && can (step i) n t))
+      → lane-can s table counted (suc n) q i ≡ (has counted i && can (step i) (suc n) q)
   unfolding lane-can can after
-  one-step n q i ql il fewer = both-ways (some-below k f) (has counted i && is-some (maybe (step i q) (λ _. none) (after (step i) n))) to from
+  one-step n q i ql il fewer = both-ways (some-below s f) (has counted i && is-some (maybe (step i q) (λ _. none) (after (step i) n))) to from
     where
-      k : ℕ
-      k = getD firsts (q + 1) 0 - getD firsts q 0
-
       f : ℕ → Bool
-      f a = moves-on targets s moves i q (λ t. lane-can targets firsts s moves counted n t i) (getD firsts q 0 + a)
+      f t = has (move-word table q t) i && lane-can s table counted n t i
 
-      at : (t : ℕ) → is-at t (step i q) ≡ true → step i q ≡ some t
-      at t h = go (step i q) refl h
-        where
-          go : (o : Option ℕ) → step i q ≡ o → is-at t o ≡ true → step i q ≡ some t
-          go none e h = absurd (clash (cc))
-          go (some r) e h = e ∙ ap some (eqb-true r t h)
+      at : (t : ℕ) (o : Option ℕ) → is-at t o ≡ true → o ≡ some t
+      at t none h = absurd (clash (cc))
+      at t (some r) h = ap some (eqb-true r t h)
 
-      to : some-below k f ≡ true → (has counted i && is-some (maybe (step i q) (λ _. none) (after (step i) n))) ≡ true
+      to : some-below s f ≡ true → (has counted i && is-some (maybe (step i q) (λ _. none) (after (step i) n))) ≡ true
       to h =
-          let (a, l, t) = some-below-elim k f h in
-          let T : ℕ = getD targets (getD firsts q 0 + a) 0 in
-          let A : Bool = ltb T s in
-          let B : Bool = has (move-word moves q T) i in
-          let C : Bool = lane-can targets firsts s moves counted n T i in
-          let low : T < s = ltb-true T s (and-left A (B && C) t) in
-          let r = and-right A (B && C) t in
-          let w = S .word q ql (getD firsts q 0 + a) T (record { from = omega arith; below = omega arith; small = low; target = refl }) in
-          let y : (has counted i && is-at T (step i q)) ≡ true = sym (w .lane i il) ∙ and-left B C r in
-          let z : (has counted i && can (step i) n T) ≡ true = sym (fewer T low) ∙ and-right B C r in
-          let e = at T (and-right (has counted i) (is-at T (step i q)) y) in
-          and-both (has counted i) (is-some (maybe (step i q) (λ _. none) (after (step i) n))) (and-left (has counted i) (is-at T (step i q)) y)
-          (rw e (and-right (has counted i) (can (step i) n T) z))
+          let (t, l, b) = some-below-elim s f h in
+          let B : Bool = has (move-word table q t) i in
+          let C : Bool = lane-can s table counted n t i in
+          let y : (has counted i && is-at t (step i q)) ≡ true = sym (S .word q t i ql l il) ∙ and-left B C b in
+          let z : (has counted i && can (step i) n t) ≡ true = sym (fewer t l) ∙ and-right B C b in
+          let e = at t (step i q) (and-right (has counted i) (is-at t (step i q)) y) in
+          and-both (has counted i) (is-some (maybe (step i q) (λ _. none) (after (step i) n))) (and-left (has counted i) (is-at t (step i q)) y)
+          (rw e (and-right (has counted i) (can (step i) n t) z))
 
-      from : (has counted i && is-some (maybe (step i q) (λ _. none) (after (step i) n))) ≡ true → some-below k f ≡ true
+      from : (has counted i && is-some (maybe (step i q) (λ _. none) (after (step i) n))) ≡ true → some-below s f ≡ true
       from h = go (step i q) refl (and-right (has counted i) (is-some (maybe (step i q) (λ _. none) (after (step i) n))) h)
         where
           there : has counted i ≡ true
           there = and-left (has counted i) (is-some (maybe (step i q) (λ _. none) (after (step i) n))) h
 
-          go : (o : Option ℕ) → step i q ≡ o → is-some (maybe o (λ _. none) (after (step i) n)) ≡ true → some-below k f ≡ true
+          go : (o : Option ℕ) → step i q ≡ o → is-some (maybe o (λ _. none) (after (step i) n)) ≡ true → some-below s f ≡ true
           go none e u = absurd (clash (cc))
           go (some t) e u =
-              let (m, A) = S .aimed i q t il ql e in
-              let a = A .from in
-              let b = A .below in
-              let z : getD firsts q 0 + (m - getD firsts q 0) ≡ m = omega arith in
-              let w : has (move-word moves q t) i ≡ true = S .word q ql m t A .lane i il ∙ and-both (has counted i) (is-at t (step i q)) there (rw e (eq-eqb t t refl)) in
-              let v : lane-can targets firsts s moves counted n t i ≡ true = fewer t (A .small) ∙ and-both (has counted i) (can (step i) n t) there u in
-              some-below-intro k f (m - getD firsts q 0) (omega arith)
-              (rw (z, A .target) (and-both (ltb t s) (has (move-word moves q t) i && lane-can targets firsts s moves counted n t i) (lt-ltb t s (A .small)) (and-both (has (move-word moves q t) i) (lane-can targets firsts s moves counted n t i) w v)))
+              let l = S .within i il q t e in
+              let w : has (move-word table q t) i ≡ true = S .word q t i ql l il ∙ and-both (has counted i) (is-at t (step i q)) there (rw e (eq-eqb t t refl)) in
+              let v : lane-can s table counted n t i ≡ true = fewer t l ∙ and-both (has counted i) (can (step i) n t) there u in
+              some-below-intro s f t l (and-both (has (move-word table q t) i) (lane-can s table counted n t i) w v)
 
-  pub lane-steps : (n q i : ℕ) → q < s → i < 64 → lane-can targets firsts s moves counted n q i ≡ (has counted i && can (step i) n q)
+  pub lane-steps : (n q i : ℕ) → q < s → i < 64 → lane-can s table counted n q i ≡ (has counted i && can (step i) n q)
   unfolding lane-can can after
   lane-steps zero q i ql il = sym (and-true (has counted i))
   lane-steps (suc n) q i ql il = one-step n q i ql il (λ t l. lane-steps n t i l il)

@@ -39,7 +39,7 @@ none-taken a b = rw (and-false b) (sym (or-false a))
 
 -- lanes added to a word of the table
 module _ (table : List ℕ) (at lanes : ℕ) (l : at < length table) where
-  abbrev with-lanes : List ℕ
+  abbrev pub with-lanes : List ℕ
   with-lanes = set table at (bitOr (getD table at 0) lanes)
 
   -- it has those too, and the other words have what they had
