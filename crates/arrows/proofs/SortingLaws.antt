@@ -4,11 +4,10 @@ use Prim.Native.Nat.{ℕ, zero, suc, _+_, _-_, _*_, _%_, _^_, _<_, _≤_}
 use native.Mathlib.Omega.{arith}
 use native.Mathlib.Decide.{ℕ-discrete}
 use native.Mathlib.Numerals.{add-one}
-use mathlib.Core.Path.{_≡_, refl, sym, ap, _∙_, subst}
+use mathlib.Core.Path.{_≡_, refl, sym, ap, _∙_}
 use mathlib.Core.Bool.{Bool, true, false, _&&_, _||_, not, and-false, or-false}
 use mathlib.Core.List.{List}
 use mathlib.Core.Logic.{_⊎_, inl, inr}
-use mathlib.Core.Option.{Option, none, some}
 use lib.Dec.{eqb, ltb}
 use lib.ListN.{length, getD, set, length-set}
 use lib.Bits.{bitAnd, bitOr, and-lt}
@@ -17,14 +16,14 @@ use Rattle.model.specs.Words.{has, choose, some-below}
 use Rattle.model.specs.Tree.{Child, Part}
 use Rattle.model.specs.Moves.{is-at}
 use Rattle.model.specs.Running.{goes}
-use Rattle.model.proofs.Words.{lt-or-le, some-below-elim, some-below-intro, not-not-true, true-not-false, both-ways, and-left, and-right, and-both}
+use Rattle.model.proofs.Words.{lt-or-le, some-below-elim, some-below-intro, not-not-true, both-ways, and-left, and-right, and-both}
 use Rattle.model.proofs.Bits.{has-none}
 use Rattle.model.proofs.Masks.{has-and}
-use Rattle.lanes.specs.Lanes.{Lanes, opposite}
+use Rattle.lanes.specs.Lanes.{opposite}
 use Rattle.lanes.proofs.LaneLaws.{lanes-own, lanes-not}
-use Rattle.sweeps.specs.Sweeps.{move-word, Narrow, WordsFor, Kept, SweepsPart}
+use Rattle.sweeps.specs.Sweeps.{move-word, Narrow, SweepsPart}
 use Rattle.sweeps.proofs.SweepLaws.{none-taken, added-bit, added-narrow, kept-same, kept-then}
-use Rattle.arrows.specs.Sorting.{run-word, taken, Took, clause-bytes, ReadAs, RanAll, leads-to, taken-from, Own, TablesFor, Empty, Sorted, HitsLent, RunsLent, Ranges}
+use Rattle.arrows.specs.Sorting.{run-word, taken, Took, clause-bytes, RanAll, leads-to, taken-from, Own, TablesFor, Empty, Sorted, HitsLent, RunsLent, Ranges}
 use Rattle.arrows.proofs.LevelLaws.{some-both}
 
 -- after the clauses before n: what they have taken, and what the remaining lanes will do

@@ -8,7 +8,6 @@ use mathlib.Core.Bool.{Bool, true, false, _&&_, and-true}
 use mathlib.Core.List.{List, [], _∷_}
 use mathlib.Core.Logic.{inl, inr}
 use mathlib.Core.Option.{Option, none, some}
-use lib.Dec.{eqb}
 use lib.ListN.{length, getD}
 use borrow.Author.Tests.{eq-eqb, eqb-true, lt-ltb, le-ltb}
 use Rattle.model.specs.Words.{has, choose, maybe, is-some, some-below}
@@ -16,7 +15,6 @@ use Rattle.model.specs.Tree.{Child, Referrer, move-to, run, stay, When, Part, C
 use Rattle.model.specs.Guards.{holds}
 use Rattle.model.specs.Moves.{Next, after, can, is-at, Within}
 use Rattle.model.specs.Node.{state-of, found, first-true, probe, action-of, next}
-use Rattle.model.specs.Running.{goes}
 use Rattle.model.proofs.Words.{clash, both-ways, and-left, and-right, and-both, some-below-intro, some-below-elim}
 use Rattle.model.proofs.NodeLaws.{led, next-by}
 use Rattle.sweeps.specs.Sweeps.{move-word}

@@ -1,21 +1,23 @@
 -- What a block does: its words are the truths of the guards, so its moves are the class's, and the levels tell its loops and its longest phase.
 -- Assumes nothing.
-use Prim.Native.Nat.{ℕ, zero, suc, _+_, _-_, _%_, _<_, _≤_}
+use Prim.Native.Nat.{ℕ, suc, _+_, _-_, _%_, _<_, _≤_}
 use native.Mathlib.Omega.{arith}
-use mathlib.Core.Path.{_≡_, refl, sym, ap, _∙_}
-use mathlib.Core.Bool.{Bool, true, false, _&&_, _||_, and-false}
+use mathlib.Core.Path.{_≡_, refl, sym, ap, _∙_, subst}
+use mathlib.Core.Bool.{Bool, true, _&&_}
 use mathlib.Core.List.{List}
 use mathlib.Core.Logic.{_⊎_, inl, inr}
+use mathlib.Core.Option.{Option}
 use lib.ListN.{length, getD}
-use Rattle.model.specs.Words.{has, some-below}
-use Rattle.model.specs.Tree.{everyone, any-in, atom, stay, When}
-use Rattle.model.specs.Moves.{can}
+use borrow.Author.Tests.{lt-ltb}
+use Rattle.model.specs.Words.{has}
+use Rattle.model.specs.Tree.{Child, everyone, any-in, atom, stay, When}
+use Rattle.model.specs.Moves.{can, is-at}
 use Rattle.model.specs.Node.{own-states, state-of}
-use Rattle.model.specs.Sound.{Sound}
+use Rattle.model.specs.Sound.{ReferrerRight, Sound}
 use Rattle.model.proofs.Words.{true-not-false, and-left, and-right}
-use Rattle.model.proofs.NodeLaws.{next-within}
+use Rattle.model.proofs.NodeLaws.{getD-mem, next-within}
 use Rattle.records.specs.Bytes.{in-fours}
-use Rattle.bodies.specs.Clauses.{when-count, first-when, guard-place}
+use Rattle.bodies.specs.Clauses.{when-count, first-when, first-action, guard-place}
 use Rattle.sheet.specs.Contents.{body, bodies}
 use Rattle.sheet.specs.Reading.{when-in, class-of}
 use Rattle.sheet.specs.declared.judging.Places.{Places}
@@ -35,33 +37,25 @@ use Rattle.lanes.proofs.CountingLaws.{met-counts}
 use Rattle.truths.specs.Words.{Filled}
 use Rattle.truths.specs.declared.plans.Plan.{Plan}
 use Rattle.truths.proofs.Truths.{truth-right}
-use Rattle.arrows.specs.Sorting.{SortedAll, Ranges}
-use Rattle.arrows.specs.Levels.{lane-can, some-can, LevelsAre, LevelsLent}
+use Rattle.sweeps.specs.Sweeps.{WordsFor}
+use Rattle.arrows.specs.Sorting.{aim, Own, TablesFor, Sorted}
+use Rattle.arrows.specs.Levels.{lane-can, some-can, LevelsAre}
 use Rattle.arrows.specs.declared.sorting.Clauses.{Clauses}
 use Rattle.arrows.specs.declared.levels.Moves.{Moves}
 use Rattle.arrows.specs.declared.levels.Moves.the-variants.{Forever, Longest}
-use Rattle.arrows.proofs.Steps.{Told, leads-next, next-aims, Steps, lane-steps}
+use Rattle.arrows.proofs.LevelLaws.{some-both}
+use Rattle.arrows.proofs.Steps.{Fits, Told, own-aim, leads-next, Steps, lane-steps}
 use Rattle.blocks.specs.Search.{TablesOf, BlockDoes, BlockIs}
-use Rattle.blocks.proofs.ClauseLaws.{states-few, states-some, classes-few, states-are, when-of, when-number, guard-read, span}
-
--- a test that is true of some number below n, and of which one part is the same for all
-some-both : (b : Bool) (n : ℕ) (f g : ℕ → Bool) → ((q : ℕ) → q < n → f q ≡ (b && g q)) → some-below n f ≡ (b && some-below n g)
-unfolding some-below
-some-both b zero f g h = sym (and-false b)
-some-both b (suc n) f g h = rw (some-both b n f g (λ q l. h q (omega arith)), h n (omega arith)) (go b (some-below n g) (g n))
-  where
-    go : (b x y : Bool) → ((b && x) || (b && y)) ≡ (b && (x || y))
-    go true x y = refl
-    go false x y = refl
+use Rattle.blocks.proofs.ClauseLaws.{states-few, states-some, classes-few, states-are, all-whens, next-first, when-of, when-number, guard-read, body-at, referrer-fits, span, last-action, clause-read, ranges}
 
 -- a when clause to stand where there is none
 abbrev no-when : When
 no-when = record { guard = atom any-in everyone 0; referrer = stay }
 
-module _ (b : List ℕ) (p : Places) (present n : ℕ) (kinds sizes masks lows places targets firsts : List ℕ) (s : ℕ) (there : Present)
-    (T : TablesOf b p present (record { kinds = kinds; sizes = sizes; masks = masks; lows = lows; count = n }) (record { places = places; targets = targets; firsts = firsts; states = s }) there) where
+module _ (b : List ℕ) (p : Places) (present n : ℕ) (kinds sizes masks lows places aims firsts actions froms statements : List ℕ) (s : ℕ) (there : Present)
+    (T : TablesOf b p present (record { kinds = kinds; sizes = sizes; masks = masks; lows = lows; count = n }) (record { places = places; aims = aims; firsts = firsts; actions = actions; froms = froms; states = s }) statements there) where
   abbrev clauses : Clauses
-  clauses = record { places = places; targets = targets; firsts = firsts; states = s }
+  clauses = record { places = places; aims = aims; firsts = firsts; actions = actions; froms = froms; states = s }
 
   abbrev plan : Plan
   plan = record { kinds = kinds; sizes = sizes; masks = masks; lows = lows; count = n }
@@ -91,57 +85,125 @@ module _ (b : List ℕ) (p : Places) (present n : ℕ) (kinds sizes masks lows p
         }
 
     module _ (before words : List ℕ) (F : Filled 0 n kinds sizes masks lows base before words) where
-      -- the clauses of state q, in lane i
-      told : (i : ℕ) → i < 64 → (q : ℕ) → q < s → (j a : ℕ) → a ≡ getD firsts q 0 + j → j < length (state-of (class-of b) q .whens)
-          → Told places targets words i (list-of (class-of b) present (base + i)) a (getD (state-of (class-of b) q .whens) j no-when)
-      unfolding true-in list-of when-in bodies
-      told i il q ql j a e l =
-          let low : q < in-fours (body b 1) = (let z = T .listed .number in omega arith) in
-          let m : j < when-count (body b 1) q = (let z = when-number b p (T .stands) q low in omega arith) in
-          let first : getD firsts q 0 ≡ first-when (body b 1) q = T .listed .firsts-right .first q (omega arith) in
-          let z : first-when (body b 1) q + j ≡ a = omega arith in
-          let (x, y) = span b p (T .stands) clauses (T .listed) q ql in
-          let inside : a < in-fours (body b 2) = omega arith in
-          let (u, v) = guard-read b p (T .stands) a inside in
-          let w : getD (state-of (class-of b) q .whens) j no-when ≡ when-in (bodies b) a = when-of b p (T .stands) q j no-when low m ∙ ap (when-in (bodies b)) z in
-          rw w
-          (record {
-            truth = rw (T .listed .whens .place a inside) (truth-right (body b 3) (cells (class-of b) present) plan (T .planned) base round before words F (guard-place (body b 2) a) (when-in (bodies b) a .guard) u v .lane i il);
-            target = T .listed .whens .aims a inside;
-          })
+      -- the children of lane i
+      abbrev list-in : ℕ → List Child
+      list-in i = list-of (class-of b) present (base + i)
 
-      module _ (old moves : List ℕ) (A : SortedAll places targets firsts s s words cw old moves) where
+      words-for : WordsFor (body b 3) list-in words
+      unfolding true-in list-of
+      words-for = record { word = λ place g e r. truth-right (body b 3) (cells (class-of b) present) plan (T .planned) base round before words F place g e r }
+
+      -- clause j of state q, which is clause a of the sheet
+      module _ (q : ℕ) (ql : q < s) (j a : ℕ) (e : a ≡ getD firsts q 0 + j) (l : j < length (state-of (class-of b) q .whens)) where
+        low : q < in-fours (body b 1)
+        low = let z = T .listed .number in omega arith
+
+        first-is : getD firsts q 0 ≡ first-when (body b 1) q
+        first-is = T .listed .firsts-right .first q (let m = low in omega arith)
+
+        counted-few : j < when-count (body b 1) q
+        counted-few = let z = when-number b p (T .stands) q low in omega arith
+
+        inside : a < in-fours (body b 2)
+        inside = let (x, y) = span b p (T .stands) clauses (T .listed) q ql in let m = counted-few in omega arith
+
+        when-is : getD (state-of (class-of b) q .whens) j no-when ≡ when-in (bodies b) a
+        when-is = when-of b p (T .stands) q j no-when low counted-few ∙ ap (when-in (bodies b)) (let f = first-is in let z : first-when (body b 1) q + j ≡ a = omega arith in z)
+
+        aimed : getD aims a 0 ≡ aim q (first-action (body b 1) q) (when-in (bodies b) a .referrer)
+        unfolding when-in bodies
+        aimed =
+            let f = first-is in
+            let m = counted-few in
+            let n = next-first b p (T .stands) q in
+            T .listed .whens .aimed q a low (omega arith) (omega arith)
+
+        fits : Fits (body-at b p (T .stands)) (class-of b) q (first-action (body b 1) q) (first-action (body b 1) (q + 1)) (when-in (bodies b) a .referrer)
+        fits =
+            referrer-fits b p (T .stands) q low (when-in (bodies b) a .referrer)
+            (subst (λ (w : When). ReferrerRight (class-of b) q (w .referrer)) when-is (is-sound .referrers q (getD (state-of (class-of b) q .whens) j no-when) (getD-mem (state-of (class-of b) q .whens) j no-when l)))
+
+        -- in lane i
+        told : (i : ℕ) → i < 64 → Told places aims words i (list-in i) (body-at b p (T .stands)) (class-of b) q (first-action (body b 1) q) (first-action (body b 1) (q + 1)) a (getD (state-of (class-of b) q .whens) j no-when)
+        unfolding when-in bodies
+        told i il =
+            let (u, v) = guard-read b p (T .stands) a inside in
+            rw when-is
+            (record {
+              truth = rw (T .listed .whens .place a (let n = inside in let z = all-whens b p (T .stands) in omega arith)) (words-for .word (guard-place (body b 2) a) (when-in (bodies b) a .guard) u v .lane i il);
+              aimed = aimed;
+              fits = fits;
+            })
+
+      -- the tables are for these children
+      actions-is : (q : ℕ) → q ≤ s → getD actions q 0 ≡ first-action (body b 1) q
+      actions-is q l = T .listed .actions-right .first q (let z = T .listed .number in omega arith)
+
+      tables-for : TablesFor aims firsts actions froms statements s words (body b 3) list-in (body-at b p (T .stands))
+      tables-for =
+          record {
+            words-right = words-for;
+            own = own;
+            bodies = λ a u v. rw (T .stated) (clause-read b p (T .stands) clauses (T .listed) a (let z = last-action b p (T .stands) clauses (T .listed) in omega arith));
+          }
+        where
+          own : (q m : ℕ) → q < s → getD firsts q 0 ≤ m → m < getD firsts (q + 1) 0 → Own actions q (getD aims m 0)
+          own q m ql x y =
+              let (u, v) = span b p (T .stands) clauses (T .listed) q ql in
+              let z : m ≡ getD firsts q 0 + (m - getD firsts q 0) = omega arith in
+              let n = when-number b p (T .stands) q (let w = T .listed .number in omega arith) in
+              let l : m - getD firsts q 0 < length (state-of (class-of b) q .whens) = omega arith in
+              let A = actions-is q (omega arith) in
+              let B = actions-is (q + 1) (omega arith) in
+              let f = fits q ql (m - getD firsts q 0) m z l in
+              let g = aimed q ql (m - getD firsts q 0) m z l in
+              rw g (subst (λ (y : ℕ). Own actions q (aim q y (when-in (bodies b) m .referrer))) A
+              (own-aim actions (body-at b p (T .stands)) (class-of b) q (when-in (bodies b) m .referrer) (rw (A, B) f)))
+
+      module _ (table : List ℕ) (A : Sorted places aims firsts actions froms statements s s words cw table) where
         long : (q : ℕ) → q < s → getD firsts (q + 1) 0 - getD firsts q 0 ≡ length (state-of (class-of b) q .whens)
         long q ql =
             let (x, y) = span b p (T .stands) clauses (T .listed) q ql in
             let z = when-number b p (T .stands) q (let e = T .listed .number in omega arith) in
             omega arith
 
+        few : s ≤ 32
+        few = let e = T .listed .number in let f = states-few b p (T .stands) in omega arith
+
+        actions-end : (q : ℕ) → q < s → first-action (body b 1) (q + 1) ≤ 256
+        actions-end q ql =
+            let R = ranges b p (T .stands) clauses (T .listed) in
+            let x = R .actions-rising (q + 1) s (omega arith) (omega arith) in
+            let y = R .actions-inside in
+            let z = actions-is (q + 1) (omega arith) in
+            omega arith
+
         -- the moves of the block are the class's
-        steps : Steps targets firsts s moves cw (λ i. next-in (class-of b) present (base + i))
+        steps : Steps s table cw (λ i. next-in (class-of b) present (base + i))
         steps =
             record {
-              within = λ i il. rw states-own (next-within (class-of b) (list-of (class-of b) present (base + i)) is-sound);
-              word = λ q ql m t a. lanes-as (λ i. has cw i && _) (A .sorted q ql m t a)
-                  (λ i il. ap (λ (x : Bool). has cw i && x)
-                  (leads-next places targets words i (list-of (class-of b) present (base + i)) no-when (class-of b) q (getD firsts q 0) (getD firsts (q + 1) 0) (long q ql) (told i il q ql) t
-                  (let e = T .listed .number in let f = states-few b p (T .stands) in let u = a .small in omega arith)));
-              aimed = λ i q t il ql e. next-aims places targets words i (list-of (class-of b) present (base + i)) no-when (class-of b) q (getD firsts q 0) (getD firsts (q + 1) 0) (long q ql) (told i il q ql) s t
-                  (rw states-own (next-within (class-of b) (list-of (class-of b) present (base + i)) is-sound q t e)) e;
+              within = λ i il. rw states-own (next-within (class-of b) (list-in i) is-sound);
+              word = λ q t i ql tl il.
+                  let f = few in
+                  A .moves (body b 3) list-in (body-at b p (T .stands)) tables-for q t i (omega arith) (omega arith) il
+                  ∙ rw (lt-ltb q s ql)
+                  (ap (λ (o : Option ℕ). has cw i && is-at t o)
+                  (leads-next places aims firsts words i (list-in i) (body-at b p (T .stands)) no-when (class-of b) q (first-action (body b 1) q) (first-action (body b 1) (q + 1)) (omega arith) (actions-end q ql) (long q ql)
+                  (λ j a e l. told q ql j a e l i il)));
             }
 
-        lane-moves : (k q i : ℕ) → q < s → i < 64 → lane-can targets firsts s moves cw k q i ≡ (counts (class-of b) present (base + i) && can (next-in (class-of b) present (base + i)) k q)
+        lane-moves : (k q i : ℕ) → q < s → i < 64 → lane-can s table cw k q i ≡ (counts (class-of b) present (base + i) && can (next-in (class-of b) present (base + i)) k q)
         lane-moves k q i ql il =
-            lane-steps targets firsts s moves cw (λ i. next-in (class-of b) present (base + i)) steps k q i ql il
+            lane-steps s table cw (λ i. next-in (class-of b) present (base + i)) steps k q i ql il
             ∙ ap (λ (x : Bool). x && can (next-in (class-of b) present (base + i)) k q) (counted-is i il)
 
         -- so are its loops
-        lane-loops : (i : ℕ) → i < 64 → some-can targets firsts s moves cw s i ≡ has-loop (class-of b) present (base + i)
+        lane-loops : (i : ℕ) → i < 64 → some-can s table cw s i ≡ has-loop (class-of b) present (base + i)
         lane-loops i il =
-            some-both (counts (class-of b) present (base + i)) s (λ q. lane-can targets firsts s moves cw s q i) (can (next-in (class-of b) present (base + i)) s) (λ q ql. lane-moves s q i ql il)
+            some-both (counts (class-of b) present (base + i)) s (λ q. lane-can s table cw s q i) (can (next-in (class-of b) present (base + i)) s) (λ q ql. lane-moves s q i ql il)
             ∙ rw states-own (sym (loop-counts (class-of b) is-sound present (base + i)))
 
-        pub block-does : (r : Moves) → LevelsAre targets firsts s moves cw r → BlockDoes b present base r
+        pub block-does : (r : Moves) → LevelsAre s table cw r → BlockDoes b present base r
         block-does (Forever w) (W, d) = (lanes-as (in-block base (has-loop (class-of b) present)) W lane-loops, d)
         block-does (Longest m) L =
             record {
@@ -153,7 +215,7 @@ module _ (b : List ℕ) (p : Places) (present n : ℕ) (kinds sizes masks lows p
               one-makes = go (L .one-makes);
             }
           where
-            go : (m ≡ 0) ⊎ ((i : ℕ) × (q : ℕ) × (i < 64) × (q < s) × (lane-can targets firsts s moves cw m q i ≡ true))
+            go : (m ≡ 0) ⊎ ((i : ℕ) × (q : ℕ) × (i < 64) × (q < s) × (lane-can s table cw m q i ≡ true))
                 → (m ≡ 0) ⊎ ((i : ℕ) × (q : ℕ) × (i < 64) × (q < own-states (class-of b)) × (counts (class-of b) present (base + i) ≡ true) × (can (next-in (class-of b) present (base + i)) m q ≡ true))
             go (inl z) = inl z
             go (inr (i, q, il, ql, t)) =
@@ -162,16 +224,12 @@ module _ (b : List ℕ) (p : Places) (present n : ℕ) (kinds sizes masks lows p
                 let D : Bool = can (next-in (class-of b) present (base + i)) m q in
                 inr (i, q, il, (let e = states-own in omega arith), and-left C D h, and-right C D h)
 
--- the tables of the clauses are as long as the levels ask
-pub lent-levels : (places targets firsts : List ℕ) (s : ℕ) (moves : List ℕ) → Ranges places targets firsts s → length moves ≡ 1024 → LevelsLent targets firsts s moves
-lent-levels places targets firsts s moves R m = record { few = R .few; of-targets = R .of-targets; of-firsts = R .of-firsts; rising = R .rising; inside = R .inside; of-moves = m }
-
 -- so for whatever sheet the tables are of
-module _ (n : ℕ) (kinds sizes masks lows places targets firsts : List ℕ) (s : ℕ) (there : Present) (base cw : ℕ) (round : base % 64 ≡ 0) (K : Lanes cw (in-block base (present-met (there .classes) (there .masks) 8))) where
-  pub block-skipped : cw ≡ 0 → BlockIs n kinds sizes masks lows places targets firsts s there base (Longest 0)
-  block-skipped z = record { does = λ b p present T. block-none b p present n kinds sizes masks lows places targets firsts s there T base cw round K z }
+module _ (n : ℕ) (kinds sizes masks lows places aims firsts actions froms statements : List ℕ) (s : ℕ) (there : Present) (base cw : ℕ) (round : base % 64 ≡ 0) (K : Lanes cw (in-block base (present-met (there .classes) (there .masks) 8))) where
+  pub block-skipped : cw ≡ 0 → BlockIs n kinds sizes masks lows places aims firsts actions froms statements s there base (Longest 0)
+  block-skipped z = record { does = λ b p present T. block-none b p present n kinds sizes masks lows places aims firsts actions froms statements s there T base cw round K z }
 
-  pub block-is : (before words old moves : List ℕ) (r : Moves) → Filled 0 n kinds sizes masks lows base before words → SortedAll places targets firsts s s words cw old moves
-      → LevelsAre targets firsts s moves cw r → BlockIs n kinds sizes masks lows places targets firsts s there base r
-  block-is before words old moves r F A L =
-      record { does = λ b p present T. block-does b p present n kinds sizes masks lows places targets firsts s there T base cw round K before words F old moves A r L }
+  pub block-is : (before words table : List ℕ) (r : Moves) → Filled 0 n kinds sizes masks lows base before words → Sorted places aims firsts actions froms statements s s words cw table
+      → LevelsAre s table cw r → BlockIs n kinds sizes masks lows places aims firsts actions froms statements s there base r
+  block-is before words table r F A L =
+      record { does = λ b p present T. block-does b p present n kinds sizes masks lows places aims firsts actions froms statements s there T base cw round K before words F table A r L }

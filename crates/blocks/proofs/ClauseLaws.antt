@@ -1,103 +1,226 @@
--- Laws about specs/ClauseTables.antt: a state and a clause more, and that the tables of an accepted sheet are its class's clauses.
+-- Laws about specs/ClauseTables.antt: a state, a clause and an action clause more, and that the tables of an accepted sheet are its class's clauses.
 -- Assumes nothing.
-use Prim.Native.Nat.{ℕ, suc, _+_, _*_, _/_, _<_, _≤_}
+use Prim.Native.Nat.{ℕ, zero, suc, _+_, _*_, _-_, _/_, _<_, _≤_}
 use native.Mathlib.Omega.{arith}
+use native.Mathlib.Decide.{ℕ-discrete}
 use native.Mathlib.Numerals.{add-one}
 use mathlib.Core.Path.{_≡_, refl, sym, ap, _∙_, subst}
-use mathlib.Core.Bool.{true}
+use mathlib.Core.Bool.{Bool, true, _&&_}
 use mathlib.Core.List.{List}
+use mathlib.Core.Logic.{_⊎_, inl, inr}
+use mathlib.Core.Option.{Option, none, some}
 use lib.Dec.{eqb}
 use lib.ListN.{length, getD, set, length-set, replicate}
 use lib.Seq.{getD-set-same, getD-set-other}
 use borrow.Author.Tests.{eqb-true}
-use Rattle.model.specs.Words.{total}
-use Rattle.model.specs.Tree.{Referrer, When}
-use Rattle.model.specs.Node.{own-states, state-of}
-use Rattle.model.proofs.Words.{below-next, and-left, each-elim, clash}
+use Rattle.model.specs.Words.{maybe, is-some}
+use Rattle.model.specs.Tree.{Referrer, move-to, run, stay, When, Part, end, Action, no-action}
+use Rattle.model.specs.Node.{own-states, state-of, action-of}
+use Rattle.model.specs.Sound.{ReferrerRight}
+use Rattle.model.proofs.Words.{below-next, and-left, and-right, each-elim, clash, lt-or-le}
 use Rattle.model.proofs.Lists.{getD-listed, getD-zeros}
-use Rattle.records.specs.Bytes.{in-fours}
+use Rattle.records.specs.Bytes.{in-fours, in-eights}
 use Rattle.records.specs.GuardRecords.{Read, got, broken, is-read, guard-from}
-use Rattle.bodies.specs.Clauses.{count-sum, when-count, first-when, guard-place, referrer-number, target, referrer-of}
-use Rattle.bodies.specs.BodyRules.{guards-right, counts-right}
-use Rattle.bodies.proofs.StatementLaws.{sum-inside}
+use Rattle.bodies.specs.Clauses.{count-sum, when-count, first-when, action-count, first-action, guard-place, statement-count, first-statement, statement-bytes, body-of}
+use Rattle.bodies.specs.BodyRules.{guards-right, counts-right, actions-plain, commands-apart, actions-right, statements-right}
+use Rattle.bodies.specs.PartChecks.{Reads}
+use Rattle.bodies.proofs.CheckLaws.{sum-none, sum-next}
+use Rattle.bodies.proofs.StatementLaws.{sum-inside, statements-whole}
 use Rattle.sheet.specs.Contents.{body, bodies}
-use Rattle.sheet.specs.Reading.{guard-in, when-in, state-in, class-of}
+use Rattle.sheet.specs.Reading.{guard-in, when-in, action-in, state-in, class-of}
 use Rattle.sheet.specs.Verdict.{Stands}
 use Rattle.sheet.specs.declared.judging.Places.{Places}
 use Rattle.sheet.proofs.Contents.{counted, body-most, body-whole}
-use Rattle.sheet.proofs.Reading.{own-states-in, state-of-in, whens-in}
+use Rattle.sheet.proofs.Reading.{own-states-in, state-of-in, whens-in, actions-in, action-of-in}
 use Rattle.sheet.proofs.Rules.{accepted-right}
 use Rattle.accepted.proofs.ReaderLaws.{stands-right}
-use Rattle.arrows.specs.Sorting.{aim, Ranges}
+use Rattle.arrows.specs.Sorting.{aim, clause-bytes, Ranges}
 use Rattle.arrows.specs.declared.sorting.Clauses.{Clauses}
-use Rattle.blocks.specs.ClauseTables.{FirstsOf, WhensOf, ClausesOf}
+use Rattle.arrows.proofs.Steps.{Fits}
+use Rattle.blocks.specs.ClauseTables.{FirstsOf, FromsOf, referrer-in, ReadState, StateLent, WhensOf, ClausesOf}
 
 -- the firsts of the first n states
-pub record FirstsTo (states firsts : List ℕ) (n : ℕ) : Type 0 where
+pub record FirstsTo (states : List ℕ) (offset : ℕ) (firsts : List ℕ) (n : ℕ) : Type 0 where
   pub few : n ≤ in-fours states + 1
   pub long : length firsts ≡ 33
-  pub first : (q : ℕ) → q < n → getD firsts q 0 ≡ first-when states q
+  pub first : (q : ℕ) → q < n → getD firsts q 0 ≡ count-sum states offset q
   pub no-first : (q : ℕ) → n ≤ q → getD firsts q 0 ≡ 0
 
-module _ (states : List ℕ) where
-  pub firsts-start : FirstsTo states (replicate 33 0) 0
+module _ (states : List ℕ) (offset : ℕ) where
+  pub firsts-start : FirstsTo states offset (replicate 33 0) 0
   firsts-start = record { few = omega arith; long = refl; first = λ q l. absurd (omega arith); no-first = λ q l. getD-zeros 33 q }
 
-  pub firsts-more : (firsts : List ℕ) (n v s : ℕ) → FirstsTo states firsts n → s ≡ in-fours states → n ≤ s → s ≤ 32 → v ≡ first-when states n → FirstsTo states (set firsts n v) (n + 1)
+  pub firsts-more : (firsts : List ℕ) (n v s : ℕ) → FirstsTo states offset firsts n → s ≡ in-fours states → n ≤ s → s ≤ 32 → v ≡ count-sum states offset n → FirstsTo states offset (set firsts n v) (n + 1)
   firsts-more firsts n v s F e l m h =
       record {
         few = omega arith;
         long = length-set firsts n v ∙ F .long;
-        first = λ q u. below-next (λ q. getD (set firsts n v) q 0 ≡ first-when states q) n
+        first = λ q u. below-next (λ q. getD (set firsts n v) q 0 ≡ count-sum states offset q) n
             (λ j k. getD-set-other firsts n j v 0 (λ z. omega arith) ∙ F .first j k)
             (getD-set-same firsts n v 0 (let x = F .long in omega arith) ∙ h) q (let z : q < suc n = omega arith in z);
         no-first = λ q u. getD-set-other firsts n q v 0 (λ z. omega arith) ∙ F .no-first q (omega arith);
       }
 
-  pub firsts-end : (firsts : List ℕ) (n s : ℕ) → FirstsTo states firsts n → s ≡ in-fours states → s < n → FirstsOf states firsts
+  pub firsts-end : (firsts : List ℕ) (n s : ℕ) → FirstsTo states offset firsts n → s ≡ in-fours states → s < n → FirstsOf states offset firsts
   firsts-end firsts n s F e l =
       let f = F .few in
       record { long = F .long; first = λ q u. F .first q (omega arith); no-first = λ q u. F .no-first q (omega arith) }
 
--- a clause more
-module _ (whens : List ℕ) where
-  pub whens-start : WhensOf whens 0 (replicate 256 0) (replicate 256 0)
-  whens-start =
+-- the starts of the first n action clauses, and where the last of them ends
+pub record FromsTo (actions froms : List ℕ) (n from : ℕ) : Type 0 where
+  pub small : from ≤ n * 524288
+  pub here : from ≡ first-statement actions n * 8
+  pub long : length froms ≡ 257
+  pub starts : (a : ℕ) → a < n + 1 → getD froms a 0 ≡ first-statement actions a * 8
+  pub no-start : (a : ℕ) → n < a → getD froms a 0 ≡ 0
+
+module _ (actions : List ℕ) where
+  pub froms-start : FromsTo actions (replicate 257 0) 0 0
+  froms-start =
+      let z = sum-none actions 2 in
+      record {
+        small = omega arith;
+        here = omega arith;
+        long = refl;
+        starts = λ a l. let e : a ≡ 0 = omega arith in rw e (getD-zeros 257 0 ∙ omega arith);
+        no-start = λ a l. getD-zeros 257 a;
+      }
+
+  pub froms-more : (froms : List ℕ) (n from count : ℕ) → FromsTo actions froms n from → n < 256 → count ≡ statement-count actions n → count < 65536
+      → FromsTo actions (set froms (n + 1) (from + count * 8)) (n + 1) (from + count * 8)
+  froms-more froms n from count F l e w =
+      let h = F .here in
+      let s = F .small in
+      let next : from + count * 8 ≡ first-statement actions (n + 1) * 8 = (let z = sum-next actions 2 n (first-statement actions n) count refl e in omega arith) in
+      record {
+        small = omega arith;
+        here = next;
+        long = length-set froms (n + 1) (from + count * 8) ∙ F .long;
+        starts = λ a u. below-next (λ a. getD (set froms (n + 1) (from + count * 8)) a 0 ≡ first-statement actions a * 8) (n + 1)
+            (λ j k. getD-set-other froms (n + 1) j (from + count * 8) 0 (λ z. omega arith) ∙ F .starts j k)
+            (getD-set-same froms (n + 1) (from + count * 8) 0 (let x = F .long in omega arith) ∙ next) a (let z : a < suc (n + 1) = omega arith in z);
+        no-start = λ a u. getD-set-other froms (n + 1) a (from + count * 8) 0 (λ z. omega arith) ∙ F .no-start a (omega arith);
+      }
+
+  pub froms-end : (froms : List ℕ) (n from s : ℕ) → FromsTo actions froms n from → s ≡ in-fours actions → n ≤ s → s ≤ n → FromsOf actions froms
+  froms-end froms n from s F e l m = record { long = F .long; from = λ a u. F .starts a (omega arith); no-from = λ a u. F .no-start a (omega arith) }
+
+-- a clause of a state more
+module _ (whens : List ℕ) (first q action : ℕ) (old-places old-aims : List ℕ) where
+  pub read-start : ReadState whens first first q action old-places old-aims old-places old-aims
+  read-start =
       record {
         places-long = refl;
-        targets-long = refl;
+        aims-long = refl;
+        place = λ w a b. absurd (omega arith);
+        aimed = λ w a b. absurd (omega arith);
+        kept-place = λ w h. refl;
+        kept-aim = λ w h. refl;
+      }
+
+  pub read-more : (n : ℕ) (places aims : List ℕ) (g t : ℕ) (r : Referrer) → ReadState whens first n q action old-places old-aims places aims → first ≤ n → n < length old-places → n < length old-aims
+      → g ≡ guard-place whens n → r ≡ referrer-in whens n → t ≡ aim q action r → ReadState whens first (n + 1) q action old-places old-aims (set places n g) (set aims n t)
+  read-more n places aims g t r R f pl al eg er et =
+      record {
+        places-long = length-set places n g ∙ R .places-long;
+        aims-long = length-set aims n t ∙ R .aims-long;
+        place = λ w a b. at-place w a b (ℕ-discrete w n);
+        aimed = λ w a b. at-aim w a b (ℕ-discrete w n);
+        kept-place = λ w h. getD-set-other places n w g 0 (apart w h) ∙ R .kept-place w (still w h);
+        kept-aim = λ w h. getD-set-other aims n w t 0 (apart w h) ∙ R .kept-aim w (still w h);
+      }
+    where
+      apart : (w : ℕ) → (w < first) ⊎ (n + 1 ≤ w) → w ≡ n → ⊥
+      apart w (inl l) z = omega arith
+      apart w (inr l) z = omega arith
+
+      still : (w : ℕ) → (w < first) ⊎ (n + 1 ≤ w) → (w < first) ⊎ (n ≤ w)
+      still w (inl l) = inl l
+      still w (inr l) = inr (omega arith)
+
+      before : (w : ℕ) → w < n + 1 → (w ≡ n → ⊥) → w < n
+      before w l d = go (lt-or-le w n)
+        where
+          go : (w < n) ⊎ (n ≤ w) → w < n
+          go (inl u) = u
+          go (inr u) = absurd (d (let z : w ≡ n = omega arith in z))
+
+      at-place : (w : ℕ) → first ≤ w → w < n + 1 → Dec (w ≡ n) → getD (set places n g) w 0 ≡ guard-place whens w
+      at-place w a b (yes z) = rw z (getD-set-same places n g 0 (let x = R .places-long in omega arith) ∙ eg)
+      at-place w a b (no d) = getD-set-other places n w g 0 d ∙ R .place w a (before w b d)
+
+      at-aim : (w : ℕ) → first ≤ w → w < n + 1 → Dec (w ≡ n) → getD (set aims n t) w 0 ≡ aim q action (referrer-in whens w)
+      at-aim w a b (yes z) = rw z (getD-set-same aims n t 0 (let x = R .aims-long in omega arith) ∙ et ∙ ap (aim q action) er)
+      at-aim w a b (no d) = getD-set-other aims n w t 0 d ∙ R .aimed w a (before w b d)
+
+  pub read-end : (n last : ℕ) (places aims : List ℕ) → ReadState whens first n q action old-places old-aims places aims → n ≤ last → last ≤ n → ReadState whens first last q action old-places old-aims places aims
+  read-end n last places aims R l m = let z : n ≡ last = omega arith in rw z at R
+
+-- a sum is at least one over fewer records
+sum-rises : (b : List ℕ) (offset q r : ℕ) → q ≤ r → count-sum b offset q ≤ count-sum b offset r
+sum-rises b offset zero r l = let z = sum-none b offset in omega arith
+sum-rises b offset (suc i) r l = rw add-one at (sum-inside b offset i r (count-sum b offset r) (omega arith) refl)
+
+-- a state more
+module _ (states whens : List ℕ) where
+  pub whens-start : WhensOf states whens 0 (replicate 256 0) (replicate 256 0)
+  whens-start =
+      let z = sum-none states 0 in
+      record {
+        places-long = refl;
+        aims-long = refl;
         place = λ w l. absurd (omega arith);
-        aims = λ w l. absurd (omega arith);
+        aimed = λ q w l. absurd (omega arith);
         no-place = λ w l. getD-zeros 256 w;
         no-aim = λ w l. getD-zeros 256 w;
       }
 
-  pub whens-more : (n : ℕ) (places targets : List ℕ) (g t : ℕ) (r : Referrer) → WhensOf whens n places targets → n < 256 → g ≡ guard-place whens n
-      → r ≡ referrer-of (referrer-number whens n) (target whens n) → t ≡ aim r → WhensOf whens (n + 1) (set places n g) (set targets n t)
-  whens-more n places targets g t r W l eg er et =
+  pub whens-more : (n first last action : ℕ) (places aims places₁ aims₁ : List ℕ) → WhensOf states whens n places aims → first ≡ first-when states n → last ≡ first-when states (n + 1) → action ≡ first-action states n
+      → ReadState whens first last n action places aims places₁ aims₁ → WhensOf states whens (n + 1) places₁ aims₁
+  whens-more n first last action places aims places₁ aims₁ W ef el ea R =
+      let rise = sum-rises states 0 n (n + 1) (omega arith) in
       record {
-        places-long = length-set places n g ∙ W .places-long;
-        targets-long = length-set targets n t ∙ W .targets-long;
-        place = λ w u. below-next (λ w. getD (set places n g) w 0 ≡ guard-place whens w) n
-            (λ j k. getD-set-other places n j g 0 (λ z. omega arith) ∙ W .place j k)
-            (getD-set-same places n g 0 (let x = W .places-long in omega arith) ∙ eg) w (let z : w < suc n = omega arith in z);
-        aims = λ w u. below-next (λ w. getD (set targets n t) w 0 ≡ aim (referrer-of (referrer-number whens w) (target whens w))) n
-            (λ j k. getD-set-other targets n j t 0 (λ z. omega arith) ∙ W .aims j k)
-            (getD-set-same targets n t 0 (let x = W .targets-long in omega arith) ∙ et ∙ ap aim er) w (let z : w < suc n = omega arith in z);
-        no-place = λ w u. getD-set-other places n w g 0 (λ z. omega arith) ∙ W .no-place w (omega arith);
-        no-aim = λ w u. getD-set-other targets n w t 0 (λ z. omega arith) ∙ W .no-aim w (omega arith);
+        places-long = R .places-long ∙ W .places-long;
+        aims-long = R .aims-long ∙ W .aims-long;
+        place = λ w l. at-place w l (lt-or-le w first);
+        aimed = λ q w l a b. at-aim q w a b (lt-or-le q n) l;
+        no-place = λ w l. R .kept-place w (inr (omega arith)) ∙ W .no-place w (omega arith);
+        no-aim = λ w l. R .kept-aim w (inr (omega arith)) ∙ W .no-aim w (omega arith);
       }
+    where
+      at-place : (w : ℕ) → w < first-when states (n + 1) → (w < first) ⊎ (first ≤ w) → getD places₁ w 0 ≡ guard-place whens w
+      at-place w l (inl u) = R .kept-place w (inl u) ∙ W .place w (omega arith)
+      at-place w l (inr u) = R .place w u (omega arith)
 
-  pub whens-end : (n m : ℕ) (places targets : List ℕ) → WhensOf whens n places targets → n ≤ m → m ≤ n → WhensOf whens m places targets
-  whens-end n m places targets W a b = let z : n ≡ m = omega arith in rw z at W
+      at-aim : (q w : ℕ) → first-when states q ≤ w → w < first-when states (q + 1) → (q < n) ⊎ (n ≤ q) → q < n + 1 → getD aims₁ w 0 ≡ aim q (first-action states q) (referrer-in whens w)
+      at-aim q w a b (inl u) l = R .kept-aim w (inl (let z = sum-rises states 0 (q + 1) n (omega arith) in omega arith)) ∙ W .aimed q w u a b
+      at-aim q w a b (inr u) l =
+          let z : q ≡ n = omega arith in
+          let x : first-when states n ≤ w = rw z at a in
+          let y : w < first-when states (n + 1) = rw z at b in
+          rw (z, ← ea) (R .aimed w (omega arith) (omega arith))
 
--- all of them, with the firsts and the number of the states
-pub read-all : (b whens states places targets firsts : List ℕ) (n w s : ℕ) → whens ≡ body b 2 → n ≡ in-fours whens → w ≤ n → n ≤ w → WhensOf whens w places targets
-    → states ≡ body b 1 → FirstsOf states firsts → s ≡ in-fours (body b 1) → ClausesOf b (record { places = places; targets = targets; firsts = firsts; states = s })
-read-all b whens states places targets firsts n w s ew en a c W es F e =
+  -- read by the tables of the firsts
+  pub state-read : (firsts actions : List ℕ) (n s : ℕ) (places aims places₁ aims₁ : List ℕ) → FirstsOf states 0 firsts → FirstsOf states 2 actions → s ≡ in-fours states → n < s → WhensOf states whens n places aims
+      → ReadState whens (getD firsts n 0) (getD firsts (n + 1) 0) n (getD actions n 0) places aims places₁ aims₁ → WhensOf states whens (n + 1) places₁ aims₁
+  state-read firsts actions n s places aims places₁ aims₁ F A e l W R =
+      whens-more n (getD firsts n 0) (getD firsts (n + 1) 0) (getD actions n 0) places aims places₁ aims₁ W (F .first n (omega arith)) (F .first (n + 1) (omega arith)) (A .first n (omega arith)) R
+
+-- the firsts of a body's states
+pub firsts-of : (b states : List ℕ) (offset : ℕ) (firsts : List ℕ) → states ≡ body b 1 → FirstsOf states offset firsts → FirstsOf (body b 1) offset firsts
+firsts-of b states offset firsts e F = subst (λ (x : List ℕ). FirstsOf x offset firsts) e F
+
+-- all clauses
+pub read-all : (b whens places aims firsts actions froms clauses : List ℕ) (n s : ℕ) → whens ≡ body b 2 → clauses ≡ body b 4 → WhensOf (body b 1) whens n places aims → n ≤ s → s ≤ n
+    → FirstsOf (body b 1) 0 firsts → FirstsOf (body b 1) 2 actions → FromsOf clauses froms → s ≡ in-fours (body b 1)
+    → ClausesOf b (record { places = places; aims = aims; firsts = firsts; actions = actions; froms = froms; states = s })
+read-all b whens places aims firsts actions froms clauses n s ew ec W l m F A R e =
+    let z : n ≡ in-fours (body b 1) = omega arith in
     record {
-      whens = subst (λ (x : List ℕ). WhensOf x (in-fours x) places targets) ew (rw (← en) (whens-end whens w n places targets W a c));
-      firsts-right = subst (λ (x : List ℕ). FirstsOf x firsts) es F;
+      whens = rw (← ew, ← z) W;
+      firsts-right = F;
+      actions-right = A;
+      froms-right = subst (λ (x : List ℕ). FromsOf x froms) ec R;
       number = e;
     }
 
@@ -129,22 +252,56 @@ module _ (b : List ℕ) (p : Places) (stands : Stands b p) where
   unfolding class-of bodies
   states-are = own-states-in (bodies b)
 
-  -- the clauses of all states are W
-  all-whens : first-when (body b 1) (in-fours (body b 1)) ≡ in-fours (body b 2)
+  pub actions-few : in-fours (body b 4) ≤ 256
+  unfolding bodies
+  actions-few = counted b (stands-right b p stands) .actions-most
+
+  -- the when clauses of all states are W, their action clauses A, and the statements of these T
+  pub all-whens : first-when (body b 1) (in-fours (body b 1)) ≡ in-fours (body b 2)
   unfolding counts-right bodies
   all-whens =
-      let s = bodies b in
-      let h = accepted-right b (stands .accepted) .bodies .counts in
       eqb-true (count-sum (body b 1) 0 (in-fours (body b 1))) (in-fours (body b 2))
-      (and-left (eqb (count-sum (body b 1) 0 (in-fours (body b 1))) (in-fours (body b 2))) (eqb (count-sum (body b 1) 2 (in-fours (body b 1))) (in-fours (body b 4))) h)
+      (and-left (eqb (count-sum (body b 1) 0 (in-fours (body b 1))) (in-fours (body b 2))) (eqb (count-sum (body b 1) 2 (in-fours (body b 1))) (in-fours (body b 4))) (accepted-right b (stands .accepted) .bodies .counts))
+
+  all-actions : first-action (body b 1) (in-fours (body b 1)) ≡ in-fours (body b 4)
+  unfolding counts-right bodies
+  all-actions =
+      eqb-true (count-sum (body b 1) 2 (in-fours (body b 1))) (in-fours (body b 4))
+      (and-right (eqb (count-sum (body b 1) 0 (in-fours (body b 1))) (in-fours (body b 2))) (eqb (count-sum (body b 1) 2 (in-fours (body b 1))) (in-fours (body b 4))) (accepted-right b (stands .accepted) .bodies .counts))
+
+  all-statements : first-statement (body b 4) (in-fours (body b 4)) ≡ in-eights (body b 5)
+  unfolding actions-right bodies
+  all-statements =
+      let last : Bool = eqb (count-sum (body b 4) 2 (in-fours (body b 4))) (in-eights (body b 5)) in
+      eqb-true (count-sum (body b 4) 2 (in-fours (body b 4))) (in-eights (body b 5))
+      (and-right (commands-apart (body b 1) (body b 4)) last (and-right (actions-plain (body b 4)) (commands-apart (body b 1) (body b 4) && last) (accepted-right b (stands .accepted) .bodies .actions)))
 
   -- those of state q stand between its first and that of the next state
-  next-first : (q : ℕ) → first-when (body b 1) (q + 1) ≡ first-when (body b 1) q + when-count (body b 1) q
-  unfolding count-sum total
-  next-first q = rw (add-one q)
+  pub next-first : (q : ℕ) → first-when (body b 1) (q + 1) ≡ first-when (body b 1) q + when-count (body b 1) q
+  next-first q = sym (sum-next (body b 1) 0 q (first-when (body b 1) q) (when-count (body b 1) q) refl refl)
+
+  pub next-action : (q : ℕ) → first-action (body b 1) (q + 1) ≡ first-action (body b 1) q + action-count (body b 1) q
+  next-action q = sym (sum-next (body b 1) 2 q (first-action (body b 1) q) (action-count (body b 1) q) refl refl)
 
   pub first-inside : (q : ℕ) → q < in-fours (body b 1) → first-when (body b 1) (q + 1) ≤ in-fours (body b 2)
   first-inside q l = sum-inside (body b 1) 0 q (in-fours (body b 1)) (in-fours (body b 2)) l all-whens
+
+  -- what is lent for state q
+  pub state-lent : (firsts actions places aims : List ℕ) (q s : ℕ) → FirstsOf (body b 1) 0 firsts → FirstsOf (body b 1) 2 actions → s ≡ in-fours (body b 1) → q < s → length places ≡ 256 → length aims ≡ 256
+      → StateLent (getD firsts q 0) (getD firsts (q + 1) 0) q (getD actions q 0) places aims
+  state-lent firsts actions places aims q s F A e l lp la =
+      let low : q < in-fours (body b 1) = omega arith in
+      let x = F .first q (omega arith) in
+      let y = F .first (q + 1) (omega arith) in
+      let z = A .first q (omega arith) in
+      record {
+        rising = (let r = sum-rises (body b 1) 0 q (q + 1) (omega arith) in omega arith);
+        inside = (let i = first-inside q low in let w = whens-few in omega arith);
+        state = (let f = states-few in omega arith);
+        few = (let r = sum-rises (body b 1) 2 q (in-fours (body b 1)) (omega arith) in let a = all-actions in let f = actions-few in omega arith);
+        of-places = lp;
+        of-aims = la;
+      }
 
   -- clause j of state q
   pub when-of : (q j : ℕ) (d : When) → q < in-fours (body b 1) → j < when-count (body b 1) q → getD (state-of (class-of b) q .whens) j d ≡ when-in (bodies b) (first-when (body b 1) q + j)
@@ -167,6 +324,39 @@ module _ (b : List ℕ) (p : Places) (stands : Stands b p) where
       go (got g e) q h = (e, rw q)
       go broken q h = absurd (clash (cc))
 
+  -- the part that action clause a reads as
+  abbrev pub body-at : ℕ → Part
+  body-at a = action-in (bodies b) a .body
+
+  pub body-read : (a : ℕ) → a < in-fours (body b 4) → Reads (body b 3) (statement-bytes (body b 4) (body b 5) a) (body-at a)
+  unfolding bodies statements-right action-in body-of
+  body-read a l =
+      go (body-of (in-fours (body b 0)) (in-fours (body b 1)) (body b 3) (body b 4) (body b 5) a) refl
+      (each-elim (in-fours (body b 4)) (λ a. is-some (body-of (in-fours (body b 0)) (in-fours (body b 1)) (body b 3) (body b 4) (body b 5) a)) (accepted-right b (stands .accepted) .bodies .statements) a l)
+    where
+      go : (o : Option Part) → body-of (in-fours (body b 0)) (in-fours (body b 1)) (body b 3) (body b 4) (body b 5) a ≡ o → is-some o ≡ true
+          → Reads (body b 3) (statement-bytes (body b 4) (body b 5) a) (maybe o (λ _. end) (λ p. p))
+      go none e h = absurd (clash (cc))
+      go (some p) e h = record { depth = 8; classes = in-fours (body b 0); states = in-fours (body b 1); reads = rw (statements-whole (body b 4) (body b 5) a) e }
+
+  -- action clause a of state q
+  action-number : (q : ℕ) → q < in-fours (body b 1) → length (state-of (class-of b) q .actions) ≡ action-count (body b 1) q
+  unfolding class-of bodies
+  action-number q l = actions-in (bodies b) q l
+
+  action-at : (q a : ℕ) → q < in-fours (body b 1) → a < action-count (body b 1) q → action-of (class-of b) q a ≡ action-in (bodies b) (first-action (body b 1) q + a)
+  unfolding class-of bodies
+  action-at q a l m = action-of-in (bodies b) q a no-action l m
+
+  -- a referrer that is right fits the tables
+  pub referrer-fits : (q : ℕ) → q < in-fours (body b 1) → (r : Referrer) → ReferrerRight (class-of b) q r → Fits body-at (class-of b) q (first-action (body b 1) q) (first-action (body b 1) (q + 1)) r
+  referrer-fits q l (move-to t) h = let e = states-are in let f = states-few in omega arith
+  referrer-fits q l (run a) h =
+      let few : a < action-count (body b 1) q = (let e = action-number q l in omega arith) in
+      let n = next-action q in
+      (omega arith, sym (ap (λ (x : Action). x .body) (action-at q a l few)))
+  referrer-fits q l stay h = tt
+
   -- the tables of its clauses
   module _ (r : Clauses) (C : ClausesOf b r) where
     pub span : (q : ℕ) → q < r .states → (getD (r .firsts) (q + 1) 0 ≡ getD (r .firsts) q 0 + when-count (body b 1) q) × (getD (r .firsts) (q + 1) 0 ≤ in-fours (body b 2))
@@ -177,13 +367,46 @@ module _ (b : List ℕ) (p : Places) (stands : Stands b p) where
         let y = C .firsts-right .first (q + 1) (omega arith) in
         (y ∙ next-first q ∙ ap (λ (m : ℕ). m + when-count (body b 1) q) (sym x), rw y (first-inside q low))
 
-    pub ranges : Ranges (r .places) (r .targets) (r .firsts) (r .states)
+    -- the action clauses of all states are A
+    pub last-action : getD (r .actions) (r .states) 0 ≡ in-fours (body b 4)
+    last-action = rw (C .number) (C .actions-right .first (in-fours (body b 1)) (omega arith) ∙ all-actions)
+
+    -- the statements of action clause a are those of its body
+    pub clause-read : (a : ℕ) → a < in-fours (body b 4) → Reads (body b 3) (clause-bytes (body b 5) (r .froms) a) (body-at a)
+    clause-read a l =
+        let x = C .froms-right .from a (omega arith) in
+        let y = C .froms-right .from (a + 1) (omega arith) in
+        let n = sum-next (body b 4) 2 a (first-statement (body b 4) a) (statement-count (body b 4) a) refl refl in
+        let z : getD (r .froms) (a + 1) 0 - getD (r .froms) a 0 ≡ statement-count (body b 4) a * 8 = omega arith in
+        rw (z, x) (body-read a l)
+
+    pub ranges : Ranges (r .places) (r .aims) (r .firsts) (r .actions) (r .froms) (body b 5) (r .states)
     ranges =
+        let n = C .number in
         record {
-          few = (let n = C .number in let f = states-few in omega arith);
+          few = (let f = states-few in omega arith);
           of-places = C .whens .places-long;
-          of-targets = C .whens .targets-long;
+          of-aims = C .whens .aims-long;
           of-firsts = C .firsts-right .long;
+          of-actions = C .actions-right .long;
+          of-froms = C .froms-right .long;
           rising = λ q l. let (e, u) = span q l in omega arith;
           inside = λ q l. let (e, u) = span q l in let f = whens-few in omega arith;
+          actions-rising = λ q t l m.
+              let x = C .actions-right .first q (omega arith) in
+              let y = C .actions-right .first t (omega arith) in
+              let z = sum-rises (body b 1) 2 q t l in
+              omega arith;
+          actions-inside = (let e = last-action in let f = actions-few in omega arith);
+          from-rising = λ a l.
+              let e = last-action in
+              let x = C .froms-right .from a (omega arith) in
+              let y = C .froms-right .from (a + 1) (omega arith) in
+              let z = sum-rises (body b 4) 2 a (a + 1) (omega arith) in
+              omega arith;
+          from-inside = λ a l.
+              let e = last-action in
+              let y = C .froms-right .from (a + 1) (omega arith) in
+              let z = sum-inside (body b 4) 2 a (in-fours (body b 4)) (in-eights (body b 5)) (omega arith) all-statements in
+              omega arith;
         }

@@ -44,30 +44,30 @@ Found b present (Loop k) = loop-answer (class-of b) present ≡ loop-in (class-o
 Found b present (Free m) = loop-answer (class-of b) present ≡ free m
 
 -- the tables that are lent to a block
-pub record Tables (n : ℕ) (kinds masks lows places targets firsts : List ℕ) (s : ℕ) (present : Present) (base : ℕ) (words moves : List ℕ) : Type 0 where
+pub record Tables (n : ℕ) (kinds masks lows places aims firsts actions froms statements : List ℕ) (s : ℕ) (present : Present) (base : ℕ) (words : List ℕ) : Type 0 where
   pub lent : Lent n kinds masks lows words
-  pub ranges : Ranges places targets firsts s
-  pub of-moves : length moves ≡ 1024
+  pub ranges : Ranges places aims firsts actions froms statements s
   pub some-state : 0 < s
   pub round : base % 64 ≡ 0
   pub lows-right : LowWords (present .masks) (present .lows)
 
 -- the tables are those of a sheet and its present child classes
-pub record TablesOf (b : List ℕ) (p : Places) (present : ℕ) (plan : Plan) (clauses : Clauses) (there : Present) : Type 0 where
+pub record TablesOf (b : List ℕ) (p : Places) (present : ℕ) (plan : Plan) (clauses : Clauses) (statements : List ℕ) (there : Present) : Type 0 where
   pub bytes : Bytes b
   pub stands : Stands b p
   pub below : (i : ℕ) → has present i ≡ true → i < child-classes (class-of b)
   pub planned : Planned (body b 3) (cells (class-of b) present) plan
   pub listed : ClausesOf b clauses
+  pub stated : statements ≡ body b 5
   pub counts : Counts (cells (class-of b) present) present there
 
 -- the tables are long enough to be lent to every block
-pub record Ready (plan : Plan) (clauses : Clauses) (there : Present) : Type 0 where
+pub record Ready (plan : Plan) (clauses : Clauses) (statements : List ℕ) (there : Present) : Type 0 where
   pub few : plan .count ≤ 1024
   pub of-kinds : length (plan .kinds) ≡ 1024
   pub of-masks : length (plan .masks) ≡ 1024
   pub of-lows : length (plan .lows) ≡ 1024
-  pub ranges : Ranges (clauses .places) (clauses .targets) (clauses .firsts) (clauses .states)
+  pub ranges : Ranges (clauses .places) (clauses .aims) (clauses .firsts) (clauses .actions) (clauses .froms) statements (clauses .states)
   pub some-state : 0 < clauses .states
   pub lows-right : LowWords (there .masks) (there .lows)
 
@@ -77,11 +77,11 @@ BlockDoes b present base (Forever w) = Lanes w (in-block base (has-loop (class-o
 BlockDoes b present base (Longest n) = BlockLongest (class-of b) present base n
 
 -- of whatever sheet the tables are
-pub record BlockIs (n : ℕ) (kinds sizes masks lows places targets firsts : List ℕ) (s : ℕ) (there : Present) (base : ℕ) (r : Moves) : Type 0 where
+pub record BlockIs (n : ℕ) (kinds sizes masks lows places aims firsts actions froms statements : List ℕ) (s : ℕ) (there : Present) (base : ℕ) (r : Moves) : Type 0 where
   pub does : (b : List ℕ) (p : Places) (present : ℕ)
-      → TablesOf b p present (record { kinds = kinds; sizes = sizes; masks = masks; lows = lows; count = n }) (record { places = places; targets = targets; firsts = firsts; states = s }) there
+      → TablesOf b p present (record { kinds = kinds; sizes = sizes; masks = masks; lows = lows; count = n }) (record { places = places; aims = aims; firsts = firsts; actions = actions; froms = froms; states = s }) statements there
       → BlockDoes b present base r
 
 -- what the blocks of all configurations of so many names give, of whatever sheet the tables are
-pub record Finds (plan : Plan) (clauses : Clauses) (there : Present) (names : ℕ) (r : Outcome) : Type 0 where
-  pub finds : (b : List ℕ) (p : Places) (present : ℕ) → TablesOf b p present plan clauses there → names ≡ name-count (class-of b) present → Found b present r
+pub record Finds (plan : Plan) (clauses : Clauses) (statements : List ℕ) (there : Present) (names : ℕ) (r : Outcome) : Type 0 where
+  pub finds : (b : List ℕ) (p : Places) (present : ℕ) → TablesOf b p present plan clauses statements there → names ≡ name-count (class-of b) present → Found b present r

@@ -1,6 +1,7 @@
 // The search: blocks rising, those in which no lane counts skipped; the first with a loop stops it.
 use crate::clauses::read_clauses;
 use accepted::held::GUARDS;
+use accepted::held::STATEMENTS;
 use accepted::readers::body_of;
 use arrows::levels::Moves;
 use arrows::levels::count_moves;
@@ -34,24 +35,38 @@ fn block<'a>(
     masks: &'a [u32],
     lows: &'a [u64],
     places: &'a [usize],
-    targets: &'a [u8],
+    aims: &'a [usize],
     firsts: &'a [usize],
+    actions: &'a [usize],
+    froms: &'a [usize],
+    statements: &'a [u8],
     s: usize,
     present: Present,
     base: u32,
     words: &mut [u64],
-    moves: &mut [u64],
 ) -> Moves
-    requires { ⌜ Tables n (now kinds) (now masks) (now lows) (now places) (now targets) (now firsts) s present base (now words) (now moves) ⌝ }
-    ensures { λ r. ⌜ BlockIs n (now (kinds .entry)) (now (sizes .entry)) (now (masks .entry)) (now (lows .entry)) (now (places .entry)) (now (targets .entry)) (now (firsts .entry)) s present base r ⌝ }
+    requires { ⌜ Tables n (now kinds) (now masks) (now lows) (now places) (now aims) (now firsts) (now actions) (now froms) (now statements) s present base (now words) ⌝ }
+    ensures { λ r. ⌜ BlockIs n (now (kinds .entry)) (now (sizes .entry)) (now (masks .entry)) (now (lows .entry)) (now (places .entry)) (now (aims .entry)) (now (firsts .entry)) (now (actions .entry)) (now (froms .entry)) (now (statements .entry)) s present base r ⌝ }
 {
     let counted = counted_lanes(present, base);
     if counted == 0 {
         return Moves::Longest(0);
     }
     fill_words(n, kinds, sizes, masks, lows, base, words);
-    sort_lanes(places, targets, firsts, s, words, counted, moves);
-    count_moves(targets, firsts, s, moves, counted)
+    let mut table = [0u64; 1280];
+    sort_lanes(
+        places,
+        aims,
+        firsts,
+        actions,
+        froms,
+        statements,
+        s,
+        words,
+        counted,
+        &mut table,
+    );
+    count_moves(s, &table, counted)
 }
 
 // The larger of two numbers.
@@ -65,13 +80,18 @@ fn larger(x: usize, y: usize) -> usize
 }
 
 // The blocks of all configurations of so many names, rising.
-fn try_blocks(plan: Plan, clauses: Clauses, there: Present, names: usize) -> Outcome
-    requires { ⌜ Ready plan clauses there × (names ≤ 20) ⌝ }
-    ensures { λ r. ⌜ Finds plan clauses there names r ⌝ }
+fn try_blocks(
+    plan: Plan,
+    clauses: Clauses,
+    statements: &[u8],
+    there: Present,
+    names: usize,
+) -> Outcome
+    requires { ⌜ Ready plan clauses (now statements) there × (names ≤ 20) ⌝ }
+    ensures { λ r. ⌜ Finds plan clauses (now (statements .entry)) there names r ⌝ }
 {
     let all: u32 = 1 << names;
     let mut words = [0u64; 1024];
-    let mut moves = [0u64; 1024];
     let mut longest = 0;
     let mut next: u32 = 0;
     while next < all {
@@ -83,13 +103,15 @@ fn try_blocks(plan: Plan, clauses: Clauses, there: Present, names: usize) -> Out
             &plan.masks,
             &plan.lows,
             &clauses.places,
-            &clauses.targets,
+            &clauses.aims,
             &clauses.firsts,
+            &clauses.actions,
+            &clauses.froms,
+            statements,
             clauses.states,
             there,
             base,
             &mut words,
-            &mut moves,
         );
         next = next + 64;
         match found {
@@ -112,5 +134,12 @@ pub fn search(sheet: &[u8], p: Places, present: u8, cells: Cells) -> Outcome
 {
     let plan = plan_guards(body_of(sheet, p, GUARDS), cells);
     let clauses = read_clauses(sheet, p);
-    try_blocks(plan, clauses, present_masks(cells, present), cells.count)
+    let statements = body_of(sheet, p, STATEMENTS);
+    try_blocks(
+        plan,
+        clauses,
+        statements,
+        present_masks(cells, present),
+        cells.count,
+    )
 }

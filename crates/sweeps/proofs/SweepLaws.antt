@@ -14,7 +14,7 @@ use lib.Seq.{getD-set-same, getD-set-other}
 use lib.Bits.{bitAnd, bitOr, or-lt}
 use borrow.Author.Tests.{eq-eqb, ne-eqb}
 use Rattle.model.specs.Words.{has, choose, maybe, is-some}
-use Rattle.model.specs.Tree.{Child, Guard, Statement, send, branch, Part, end, _then_}
+use Rattle.model.specs.Tree.{Child, Guard, Statement, branch, Part, _then_}
 use Rattle.model.specs.Guards.{holds}
 use Rattle.model.specs.Moves.{is-at}
 use Rattle.model.specs.declared.OwnState.{OwnState}
@@ -22,7 +22,6 @@ use Rattle.model.proofs.Bits.{has-none}
 use Rattle.model.proofs.Masks.{has-and, has-or}
 use Rattle.records.specs.Patterns.{pattern-as}
 use Rattle.records.specs.declared.kinds.Pattern.{Pattern}
-use Rattle.bodies.specs.PartChecks.{Reads}
 use Rattle.bodies.specs.StatementReaders.{statement-record, then-part, else-part, behind-statement}
 use Rattle.bodies.specs.declared.statements.Branch.{Branch}
 use Rattle.bodies.specs.declared.statements.StatementRecord.the-variants.{Do, MoveTo, If, Unknown}
@@ -30,7 +29,7 @@ use Rattle.bodies.proofs.ReadLaws.{read-end, read-do, read-move, read-if}
 use Rattle.lanes.specs.Lanes.{Lanes, opposite}
 use Rattle.lanes.proofs.LaneLaws.{lanes-not}
 use Rattle.model.specs.Running.{goes, goes-one}
-use Rattle.sweeps.specs.Sweeps.{move-word, Narrow, WordsFor, Swept, Kept, Adds, SweepsPart, SweepsIf}
+use Rattle.sweeps.specs.Sweeps.{move-word, Narrow, Swept, Kept, Adds, SweepsPart, SweepsIf}
 use Rattle.model.proofs.RunLaws.{goes-end, goes-then, goes-send, goes-go, goes-branch}
 
 -- lanes of which none is taken

@@ -2,9 +2,7 @@
 -- guards and children and the list reads as a part.
 -- Assumes nothing.
 use Prim.Native.Nat.{ℕ, _^_, _<_}
-use mathlib.Core.Path.{_≡_}
 use mathlib.Core.List.{List}
-use lib.ListN.{length}
 use Rattle.model.specs.Tree.{Child, Part}
 use Rattle.model.specs.Unique.{LeavesOne}
 use Rattle.bodies.specs.PartChecks.{Reads}
