@@ -9,7 +9,6 @@ use Rattle.model.specs.Tree.{Child}
 use Rattle.model.specs.Replies.{written}
 use Rattle.children.specs.ChildList.{children-of, pairs}
 use Rattle.children.specs.NameSets.{Crewed}
-use Rattle.children.proofs.ChildListLaws.{pairs-length}
 use Rattle.running.specs.Running.{Runnable}
 
 -- pairs read back
@@ -30,5 +29,5 @@ module _ (ks : List Child) (before after : List ℕ) (n : ℕ) (e : after ≡ wr
   pub list-read : children-of (take (n - 0) after) ≡ ks
   list-read = ap children-of front ∙ pairs-read ks
 
-  pub list-runs : (sets : List ℕ) → Crewed sets ks → length (pairs ks) ≤ 40 → Runnable sets (take (n - 0) after)
+  pub list-runs : (sets : List ℕ) → Crewed sets ks → n ≤ 40 → Runnable sets (take (n - 0) after)
   list-runs sets c l = record { crewed = rw list-read c; short = omega (arith, ap length front) }

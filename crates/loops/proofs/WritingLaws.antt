@@ -105,7 +105,7 @@ module _ (cs ns : List ℕ) (n k : ℕ) (out₀ : List ℕ) where
           same = w .same;
         }
 
-  pub writing-end : (out : List ℕ) (place i : ℕ) → Writing cs ns n k out₀ out place i → n ≤ i → (out ≡ written (pairs-of cs ns k n) out₀) × (place ≡ length (pairs-of cs ns k n))
+  pub writing-end : (out : List ℕ) (place i : ℕ) → Writing cs ns n k out₀ out place i → n ≤ i → (out ≡ written (pairs-of cs ns k n) out₀) × (place ≡ length (pairs-of cs ns k n)) × (place ≤ 2 * n)
   writing-end out place i w l =
       let e : i ≡ n = (let x = w .inside in omega arith) in
-      (w .content ∙ ap (λ (j : ℕ). written (pairs-of cs ns k j) out₀) e, w .behind ∙ ap (λ (j : ℕ). length (pairs-of cs ns k j)) e)
+      (w .content ∙ ap (λ (j : ℕ). written (pairs-of cs ns k j) out₀) e, w .behind ∙ ap (λ (j : ℕ). length (pairs-of cs ns k j)) e, (let x = w .low in omega arith))

@@ -110,7 +110,7 @@ pub fn spread(cells: Cells, k: u32) -> [u32; 8]
 // The list of a configuration, one child per set bit, in bit order, as pairs; what is behind them is kept. How many bytes it has.
 pub fn write_list(cells: Cells, k: u32, out: &mut [u8]) -> usize
     requires { ⌜ (cells .count ≤ 20) × (2 * cells .count ≤ length (now out)) ⌝ }
-    ensures { λ r. ⌜ (now (out .exit) ≡ written (pairs (chosen (cells-of cells) k)) (now (out .entry))) × (r ≡ length (pairs (chosen (cells-of cells) k))) ⌝ }
+    ensures { λ r. ⌜ (now (out .exit) ≡ written (pairs (chosen (cells-of cells) k)) (now (out .entry))) × (r ≡ length (pairs (chosen (cells-of cells) k))) × (r ≤ 2 * cells .count) ⌝ }
 {
     let classes = cells.classes;
     let names = cells.names;

@@ -42,7 +42,7 @@ returns-4 c =
     let f = r .before .before in
     let s = f .before .before in
     let d = s .before .before in
-    found-loop _ _ _ _ (known (d .before)) _ (d .if2 .left) (s .before .if3 .left) _ (s .search .ensures) _ (f .found .given .1) _ (r .returning-in .ensures) _ (c .before .before .write-list .ensures)
+    found-loop _ _ _ _ (known (d .before)) _ (d .if2 .left) (s .before .if3 .left) _ (s .search .ensures) _ (f .found .given .1) _ (r .returning-in .ensures) _ (c .before .before .write-list .ensures .0)
 
 returns-5 : tie.Need-returns-5
 returns-5 c =

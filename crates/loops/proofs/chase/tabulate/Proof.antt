@@ -8,10 +8,10 @@ use Rattle.loops.proofs.chase.tabulate.Statement.{statement}
 use Rattle.loops.proofs.chase.tabulate.Tie as tie
 
 abbrev Inv-loop : tie.InvT-loop
-Inv-loop sheet p sets n to₀ q₀ to q = (q ≤ n) × Tabulating sheet sets to q
+Inv-loop sheet p list sets n to₀ q₀ to q = (q ≤ n) × Tabulating sheet list to q
 
 abbrev μ-loop : tie.MeasureT-loop
-μ-loop sheet p sets n to₀ q₀ to q = n - q
+μ-loop sheet p list sets n to₀ q₀ to q = n - q
 
 loop-holds : tie.Need-loop-holds Inv-loop μ-loop
 loop-holds c = (search needs, tabulating-start _ _)
@@ -20,7 +20,7 @@ loop-again : tie.Need-loop-again Inv-loop μ-loop
 loop-again c = (search needs, tabulating-more _ _ _ _ _ (c .before .before .loop .inv .1) (omega arith) (c .next-from .ensures))
 
 returns : tie.Need-returns Inv-loop μ-loop
-returns c = let b = c .before .before in tabulating-end _ _ _ (b .before .before .pre) _ _ _ (c .before .loop .inv .1) (b .state-count .ensures .0) (omega arith)
+returns c = let b = c .before .before in tabulating-end _ _ _ (b .before .before .before .pre .0) _ _ _ (c .before .loop .inv .1) (b .state-count .ensures .0) (omega arith)
 
 pub tabulate-spec : {M : Type 1} → statement M
 tabulate-spec =
