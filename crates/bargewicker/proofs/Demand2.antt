@@ -109,14 +109,14 @@ module _ (c : Class) (ks : List Child) where
   sends-first q =
       record {
         by-a-do = λ i a F. sends-is c ks q ∙ ap (sent-by c ks q) (found-first q i (run a) F);
-        else-nothing = λ no. sends-is c ks q ∙ silent no (probe c ks q) refl;
+        else-nothing = λ never. sends-is c ks q ∙ silent never (probe c ks q) refl;
       }
     where
       silent : ((i a : ℕ) → First c ks q i (run a) → ⊥) → (p : Probed) → probe c ks q ≡ p → sent-by c ks q p ≡ []
-      silent no nothing e = refl
-      silent no (found i (move-to t)) e = refl
-      silent no (found i (run a)) e = absurd (no i a (first-found q i (run a) e))
-      silent no (found i stay) e = refl
+      silent never nothing e = refl
+      silent never (found i (move-to t)) e = refl
+      silent never (found i (run a)) e = absurd (never i a (first-found q i (run a) e))
+      silent never (found i stay) e = refl
 
   -- a turn that stops says why
   stops-so : Sound c → (s : ℕ) (e : Ending) (sent : List Sent) → turn c ks s ≡ stops e sent → Settles c ks s e
