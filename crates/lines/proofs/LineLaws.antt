@@ -16,7 +16,8 @@ use Rattle.model.specs.declared.LoopAnswer.the-variants.{Refused, Given}
 use Rattle.model.proofs.RefusalLaws.{numbered-from-1}
 use Rattle.texts.specs.Texts.{Appended, decimal-text, number-text, hex-text}
 use Rattle.texts.proofs.Decimals.{decimal-length}
-use Rattle.lines.specs.Lines.{refused-word, loop-word, free-word, said, string-field, text-of, loop-text, read-text, child-field, child-fields, is-loop, loopcheck-line}
+use Rattle.texts.proofs.Appending.{appended-same}
+use Rattle.lines.specs.Lines.{refused-word, do-word, loop-word, free-word, said, empty-field, string-field, text-of, phase-text, loop-text, read-text, child-field, child-fields, is-loop, loopcheck-line}
 
 -- a refusal has the same text whatever was asked
 refusal-text : (words : List (List ℕ)) (n : ℕ) → 1 ≤ n → text-of words (n ∷ []) ≡ said refused-word (n ∷ [])
@@ -28,6 +29,14 @@ pub told-refused : (words : List (List ℕ)) (l m : List ℕ) (end : ℕ) (x : R
     → Appended l m 0 (text-of words (number-of x ∷ [])) end
 told-refused words l m end x a = rw (refusal-text words (number-of x) (numbered-from-1 x)) a
 
+-- of a phase that is refused, or closed by a DO, no empty field stands behind the text
+pub phase-refused : (l m : List ℕ) (end : ℕ) (x : Refusal) → Appended l m 0 (said refused-word (number-of x ∷ [])) end → Appended l m 0 (phase-text (number-of x ∷ [])) end
+phase-refused l m end x a = rw append-nil (told-refused _ l m end x a)
+
+pub phase-closed : (l m : List ℕ) (end q moves n c : ℕ) → Appended l m 0 (said do-word (q ∷ moves ∷ n ∷ c ∷ [])) end → Appended l m 0 (phase-text (0 ∷ 2 ∷ q ∷ moves ∷ n ∷ c ∷ [])) end
+unfolding text-of
+phase-closed l m end q moves n c a = appended-same l m 0 end _ _ (sym (append-nil (said do-word (q ∷ moves ∷ n ∷ c ∷ [])))) a
+
 -- so of a class text that is refused for another reason than its words
 read-refusal : (n : ℕ) → 1 ≤ n → read-text (n ∷ []) ≡ said refused-word (n ∷ [])
 unfolding read-text
@@ -38,7 +47,7 @@ pub read-refused : (l m : List ℕ) (end : ℕ) (x : Refusal) → Appended l m 0
 read-refused l m end x a = rw (read-refusal (number-of x) (numbered-from-1 x)) a
 
 -- a string with no bytes, and one with some
-pub no-bytes : (bytes : List ℕ) → length bytes ≡ 0 → 32 ∷ 45 ∷ [] ≡ string-field bytes
+pub no-bytes : (bytes : List ℕ) → length bytes ≡ 0 → empty-field ≡ string-field bytes
 no-bytes [] e = refl
 no-bytes (b ∷ bs) e = absurd (omega arith)
 

@@ -4,7 +4,7 @@ use Prim.Native.Nat.{ℕ, zero, suc}
 use mathlib.Core.Bool.{Bool, cond, _&&_}
 use mathlib.Core.List.{List, [], _∷_, _++_}
 use lib.Dec.{eqb}
-use lib.ListN.{getD}
+use lib.ListN.{length, getD}
 use Rattle.texts.specs.Texts.{decimal-text, number-text, hex-text}
 
 -- the answer to a line that is no question; the words of the cases
@@ -49,9 +49,13 @@ unfoldable pub said : List ℕ → List ℕ → List ℕ
 said text [] = text
 said text (n ∷ ns) = said (text ++ number-text n) ns
 
+-- a further field with nothing to say: a space, then `-`
+abbrev pub empty-field : List ℕ
+empty-field = 32 ∷ 45 ∷ []
+
 -- a string of bytes as a further field: a space, then its hex digits, `-` for the empty one
 abbrev pub string-field : List ℕ → List ℕ
-string-field [] = 32 ∷ 45 ∷ []
+string-field [] = empty-field
 string-field (b ∷ bs) = 32 ∷ hex-text (b ∷ bs)
 
 -- an answer's numbers are those of the paper: a refusal's number, or 0, the number of the case and its values. Each case has its word
@@ -68,8 +72,9 @@ judge-text = text-of (accepted-word ∷ [])
 abbrev pub probe-text : List ℕ → List ℕ
 probe-text = text-of (none-word ∷ clause-word ∷ [])
 
+-- the command of the DO that closed a phase is its last number; with five numbers, up to the bytes written, there is no such DO
 abbrev pub phase-text : List ℕ → List ℕ
-phase-text = text-of (none-word ∷ stay-word ∷ do-word ∷ loop-word ∷ [])
+phase-text ns = text-of (none-word ∷ stay-word ∷ do-word ∷ loop-word ∷ []) ns ++ cond (eqb (length ns) 5) empty-field []
 
 abbrev pub command-text : List ℕ → List ℕ
 command-text = text-of (ignored-word ∷ handled-word ∷ [])
@@ -84,6 +89,9 @@ read-text (zero ∷ values) = said read-word values
 read-text (suc n ∷ values) = said refused-word (suc n ∷ values)
 
 -- with the lent buffer as it is after the call
+abbrev pub phase-line : List ℕ → List ℕ → List ℕ
+phase-line ns final = phase-text ns ++ string-field final
+
 abbrev pub command-line : List ℕ → List ℕ → List ℕ
 command-line ns final = command-text ns ++ string-field final
 

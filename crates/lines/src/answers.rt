@@ -18,12 +18,12 @@ use texts::writing::append_byte;
 use texts::writing::append_bytes;
 use texts::writing::append_hex;
 use texts::writing::append_number;
-ghost use mathlib.Core.List.{[], _∷_};
+ghost use mathlib.Core.List.{[], _∷_, _++_};
 ghost use Rattle.model.specs.Refusals.{number-of};
-ghost use Rattle.model.specs.Values.{referrer-values, probed-values, settled-values, phase-values};
-ghost use Rattle.model.specs.Answers.{referrer-as, probed-as, ending-as, phase-as, handled-values, looped-values, judge-numbers, probe-numbers, phase-numbers, command-numbers, loop-numbers};
+ghost use Rattle.model.specs.Values.{referrer-values, probed-values, settled-values};
+ghost use Rattle.model.specs.Answers.{referrer-as, probed-as, ending-as, phased-values, handled-values, looped-values, judge-numbers, probe-numbers, phase-numbers, command-numbers, loop-numbers};
 ghost use Rattle.texts.specs.Texts.{Appended};
-ghost use Rattle.lines.specs.Lines.{bad-line, clause-word, refused-word, string-field, said, judge-text, probe-text, phase-text, command-text, loop-text, command-line, loop-line};
+ghost use Rattle.lines.specs.Lines.{bad-line, clause-word, refused-word, empty-field, string-field, said, judge-text, probe-text, phase-text, command-text, loop-text, phase-line, command-line, loop-line};
 
 // A line that is no question.
 pub fn bad_line(out: &mut [u8]) -> usize
@@ -56,6 +56,14 @@ fn say_three(word: &[u8], x: u64, y: u64, z: u64, out: &mut [u8]) -> usize
     append_number(out, end, z)
 }
 
+// A word and four numbers.
+fn say_four(word: &[u8], x: u64, y: u64, z: u64, last: u64, out: &mut [u8]) -> usize
+    ensures { λ r. ⌜ Appended (now (out .entry)) (now (out .exit)) 0 (said (now (word .entry)) (x ∷ y ∷ z ∷ last ∷ [])) r ⌝ }
+{
+    let end = say_three(word, x, y, z, out);
+    append_number(out, end, last)
+}
+
 // refused NUMBER
 pub fn refused(x: Refusal, out: &mut [u8]) -> usize
     ensures { λ r. ⌜ Appended (now (out .entry)) (now (out .exit)) 0 (said refused-word (number-of x ∷ [])) r ⌝ }
@@ -63,14 +71,21 @@ pub fn refused(x: Refusal, out: &mut [u8]) -> usize
     say_one(b"refused", refusal_number(x), out)
 }
 
+// A further field with nothing to say: a space, then `-`.
+fn append_empty(out: &mut [u8], at: usize) -> usize
+    ensures { λ r. ⌜ Appended (now (out .entry)) (now (out .exit)) at empty-field r ⌝ }
+{
+    append_bytes(out, at, b" -")
+}
+
 // A string of bytes as a further field: a space, then its hex digits, `-` for the empty one.
 pub fn append_string(out: &mut [u8], at: usize, bytes: &[u8]) -> usize
     ensures { λ r. ⌜ Appended (now (out .entry)) (now (out .exit)) at (string-field (now (bytes .entry))) r ⌝ }
 {
-    let next = append_byte(out, at, b' ');
     if bytes.len() == 0 {
-        return append_byte(out, next, b'-');
+        return append_empty(out, at);
     }
+    let next = append_byte(out, at, b' ');
     append_hex(out, next, bytes)
 }
 
@@ -115,35 +130,58 @@ pub fn probe_line(answer: ProbeAnswer, out: &mut [u8]) -> usize
     }
 }
 
-// none STATE MOVES, stay STATE MOVES, or do STATE MOVES COMMAND
-fn settled_line(ending: Ending, q: OwnState, moves: usize, out: &mut [u8]) -> usize
-    ensures { λ r. ⌜ Appended (now (out .entry)) (now (out .exit)) 0 (phase-text (0 ∷ settled-values (ending-as ending) (q .0) moves)) r ⌝ }
+// ENDING STATE MOVES WRITTEN and `-`: a phase that no DO closed.
+fn say_unclosed(ending: &[u8], q: OwnState, moves: usize, written: usize, out: &mut [u8]) -> usize
+    ensures { λ r. ⌜ Appended (now (out .entry)) (now (out .exit)) 0 (said (now (ending .entry)) (q .0 ∷ moves ∷ written ∷ []) ++ empty-field) r ⌝ }
+{
+    let end = say_three(ending, q.0 as u64, moves as u64, written as u64, out);
+    append_empty(out, end)
+}
+
+// none STATE MOVES WRITTEN -, stay STATE MOVES WRITTEN -, or do STATE MOVES WRITTEN COMMAND
+fn settled_line(ending: Ending, q: OwnState, moves: usize, written: usize, out: &mut [u8]) -> usize
+    ensures { λ r. ⌜ Appended (now (out .entry)) (now (out .exit)) 0 (phase-text (0 ∷ settled-values (ending-as ending) (q .0) moves written)) r ⌝ }
 {
     match ending {
-        Ending::ByNone => say_two(b"none", q.0 as u64, moves as u64, out),
-        Ending::ByStay => say_two(b"stay", q.0 as u64, moves as u64, out),
-        Ending::ByDo(c) => say_three(b"do", q.0 as u64, moves as u64, c as u64, out),
+        Ending::ByNone => say_unclosed(b"none", q, moves, written, out),
+        Ending::ByStay => say_unclosed(b"stay", q, moves, written, out),
+        Ending::ByDo(c) => say_four(
+            b"do",
+            q.0 as u64,
+            moves as u64,
+            written as u64,
+            c as u64,
+            out,
+        ),
     }
 }
 
-// The same, or loop STATE MOVES
+// The same, or loop STATE MOVES 0 -
 fn phased_line(phase: Phase, out: &mut [u8]) -> usize
-    ensures { λ r. ⌜ Appended (now (out .entry)) (now (out .exit)) 0 (phase-text (0 ∷ phase-values (phase-as phase))) r ⌝ }
+    ensures { λ r. ⌜ Appended (now (out .entry)) (now (out .exit)) 0 (phase-text (0 ∷ phased-values phase)) r ⌝ }
 {
     match phase {
-        Phase::Settled(ending, q, moves) => settled_line(ending, q, moves, out),
-        Phase::Loops(q, moves) => say_two(b"loop", q.0 as u64, moves as u64, out),
+        Phase::Settled(ending, q, moves, written) => settled_line(ending, q, moves, written, out),
+        Phase::Loops(q, moves) => say_unclosed(b"loop", q, moves, 0, out),
     }
 }
 
-// The line of the when phase's answer.
-pub fn phase_line(answer: PhaseAnswer, out: &mut [u8]) -> usize
+// The text of the when phase's answer.
+fn phasing_line(answer: PhaseAnswer, out: &mut [u8]) -> usize
     ensures { λ r. ⌜ Appended (now (out .entry)) (now (out .exit)) 0 (phase-text (phase-numbers answer)) r ⌝ }
 {
     match answer {
         PhaseAnswer::Refused(x) => refused(x, out),
         PhaseAnswer::Given(p) => phased_line(p, out),
     }
+}
+
+// The same, and the whole buffer
+pub fn phase_line(answer: PhaseAnswer, lent: &[u8], out: &mut [u8]) -> usize
+    ensures { λ r. ⌜ Appended (now (out .entry)) (now (out .exit)) 0 (phase-line (phase-numbers answer) (now (lent .entry))) r ⌝ }
+{
+    let end = phasing_line(answer, out);
+    append_string(out, end, lent)
 }
 
 // handled STATE WRITTEN, or ignored STATE 0

@@ -1,17 +1,12 @@
--- A refusal and what the when phase gives have their texts.
+-- The answer, and the buffer behind it.
 -- Assumes nothing.
-use Rattle.lines.proofs.LineLaws.{told-refused}
+use Rattle.texts.proofs.Appending.{appended-then}
 use borrow.Author.Needs.{needs}
 use Rattle.lines.proofs.answers.phase_line.Statement.{statement}
 use Rattle.lines.proofs.answers.phase_line.Tie as tie
 
 returns : tie.Need-returns
-returns c =
-    let a = c .before .before .before .before .before .answer in
-    rw (a .given .1) (told-refused _ _ _ _ (a .given .0 .0) (c .before .before .refused .ensures))
-
-returns-2 : tie.Need-returns-2
-returns-2 c = rw (c .before .before .before .before .before .answer2 .given .1) (c .before .before .phased-line .ensures)
+returns c = appended-then _ _ _ _ _ _ _ _ (c .before .before .before .before .before .before .phasing-line .ensures) (c .before .before .append-string .ensures)
 
 pub phase-line-spec : {M : Type 1} → statement M
-phase-line-spec = tie.close (tie.spec (λ c. search needs) (λ c κs. search needs) (λ c. search needs) (λ c κs. search needs) (λ c. search needs) returns (λ c. search needs) returns-2)
+phase-line-spec = tie.close (tie.spec (λ c κs. search needs) (λ c κs. search needs) (λ c. search needs) returns)

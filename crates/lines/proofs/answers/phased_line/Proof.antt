@@ -10,7 +10,7 @@ returns c = rw (c .before .before .before .before .before .phase .given .1) (c .
 
 returns-2 : tie.Need-returns-2
 unfolding text-of
-returns-2 c = rw (c .before .before .before .before .before .before .before .phase2 .given .1) (c .before .before .say-two .ensures)
+returns-2 c = rw (c .before .before .before .before .before .before .phase2 .given .1) (c .before .before .say-unclosed .ensures)
 
 pub phased-line-spec : {M : Type 1} → statement M
-phased-line-spec = tie.close (tie.spec (λ c. search needs) (λ c κs. search needs) (λ c. search needs) (λ c. search needs) (λ c. search needs) (λ c κs. search needs) (λ c. search needs) returns (λ c. search needs) returns-2)
+phased-line-spec = tie.close (tie.spec (λ c. search needs) (λ c κs. search needs) (λ c. search needs) (λ c. search needs) (λ c κs. search needs) (λ c. search needs) returns (λ c. search needs) returns-2)

@@ -1,21 +1,21 @@
--- Each ending has its word.
+-- Each ending has its word, and a closing DO its command.
 -- Assumes nothing.
 use Rattle.lines.specs.Lines.{text-of}
+use Rattle.lines.proofs.LineLaws.{phase-closed}
 use borrow.Author.Needs.{needs}
 use Rattle.lines.proofs.answers.settled_line.Statement.{statement}
 use Rattle.lines.proofs.answers.settled_line.Tie as tie
 
 returns : tie.Need-returns
 unfolding text-of
-returns c = rw (c .before .before .before .before .before .before .enum-told .given .1) (c .before .before .say-two .ensures)
+returns c = rw (c .before .before .before .before .before .enum-told .given .1) (c .before .before .say-unclosed .ensures)
 
 returns-2 : tie.Need-returns-2
 unfolding text-of
-returns-2 c = rw (c .before .before .before .before .before .before .enum-told2 .given .1) (c .before .before .say-two2 .ensures)
+returns-2 c = rw (c .before .before .before .before .before .enum-told2 .given .1) (c .before .before .say-unclosed2 .ensures)
 
 returns-3 : tie.Need-returns-3
-unfolding text-of
-returns-3 c = rw (c .before .before .before .before .before .before .before .ending .given .1) (c .before .before .say-three .ensures)
+returns-3 c = rw (c .before .before .before .before .before .before .before .ending .given .1) (phase-closed _ _ _ _ _ _ _ (c .before .before .say-four .ensures))
 
 pub settled-line-spec : {M : Type 1} → statement M
-settled-line-spec = tie.close (tie.spec (λ c. search needs) (λ c. search needs) (λ c. search needs) (λ c κs. search needs) (λ c. search needs) (λ c. search needs) (λ c. search needs) (λ c κs. search needs) (λ c. search needs) (λ c. search needs) (λ c. search needs) (λ c. search needs) (λ c κs. search needs) (λ c. search needs) returns (λ c. search needs) returns-2 (λ c. search needs) returns-3)
+settled-line-spec = tie.close (tie.spec (λ c. search needs) (λ c. search needs) (λ c κs. search needs) (λ c. search needs) (λ c. search needs) (λ c κs. search needs) (λ c. search needs) (λ c. search needs) (λ c. search needs) (λ c. search needs) (λ c κs. search needs) (λ c. search needs) returns (λ c. search needs) returns-2 (λ c. search needs) returns-3)
