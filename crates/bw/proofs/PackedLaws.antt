@@ -62,20 +62,23 @@ module _ (i : ℕ) (r : Referrer) where
   word-stay e = rw e (omega arith)
 
 -- the when phase: settled by each of the three endings, or a loop
+abbrev way-word : ℕ → ℕ → ℕ → ℕ
+way-word q m n = q * 65536 + m % 256 * 16777216 + n % 16777216 * 1099511627776
+
 module _ (q m : ℕ) (l : q < 256) where
-  pub word-by-none : (e : Ending) → e ≡ ByNone → q * 65536 + m % 256 * 16777216 ≡ word kinds-of-phase (0 ∷ settled-values (ending-as e) q m)
+  pub word-by-none : (n : ℕ) (e : Ending) → e ≡ ByNone → way-word q m n ≡ word kinds-of-phase (0 ∷ settled-values (ending-as e) q m n)
   unfolding word fields side-by-side
-  word-by-none e f = rw f (omega arith)
+  word-by-none n e f = rw f (omega arith)
 
-  pub word-by-stay : (e : Ending) → e ≡ ByStay → 256 + (q * 65536 + m % 256 * 16777216) ≡ word kinds-of-phase (0 ∷ settled-values (ending-as e) q m)
+  pub word-by-stay : (n : ℕ) (e : Ending) → e ≡ ByStay → 256 + way-word q m n ≡ word kinds-of-phase (0 ∷ settled-values (ending-as e) q m n)
   unfolding word fields side-by-side
-  word-by-stay e f = rw f (omega arith)
+  word-by-stay n e f = rw f (omega arith)
 
-  pub word-by-do : (e : Ending) (c : ℕ) → e ≡ ByDo c → c < 256 → 512 + (q * 65536 + m % 256 * 16777216) + c * 4294967296 ≡ word kinds-of-phase (0 ∷ settled-values (ending-as e) q m)
+  pub word-by-do : (n : ℕ) (e : Ending) (c : ℕ) → e ≡ ByDo c → c < 256 → 512 + way-word q m n + c * 4294967296 ≡ word kinds-of-phase (0 ∷ settled-values (ending-as e) q m n)
   unfolding word fields side-by-side
-  word-by-do e c f k = rw f (omega arith)
+  word-by-do n e c f k = rw f (omega arith)
 
-  pub word-loops : (ns : List ℕ) → ns ≡ 3 ∷ q ∷ m ∷ [] → 768 + q * 65536 + m % 256 * 16777216 ≡ word kinds-of-phase (0 ∷ ns)
+  pub word-loops : (ns : List ℕ) → ns ≡ 3 ∷ q ∷ m ∷ 0 ∷ [] → 768 + q * 65536 + m % 256 * 16777216 ≡ word kinds-of-phase (0 ∷ ns)
   unfolding word fields side-by-side
   word-loops ns f = rw f (omega arith)
 

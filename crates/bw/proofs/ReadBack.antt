@@ -7,7 +7,7 @@ use mathlib.Core.List.{List, [], _∷_, map}
 use lib.Arith.{digits-div, digits-mod}
 use lib.ListN.{getD}
 use borrow.Author.Tests.{ne-eqb}
-use Rattle.bw.specs.Packed.{Field, refused, kind, clause, referrer, target, state, moves, to-do, bytes-written, configuration, side-by-side, fields, word, read, unpacked, kinds-of-probe, kinds-of-phase, kinds-of-command, kinds-of-loop}
+use Rattle.bw.specs.Packed.{Field, refused, kind, clause, referrer, target, state, moves, to-do, phase-written, command-written, configuration, side-by-side, fields, word, read, unpacked, way, kinds-of-probe, kinds-of-phase, kinds-of-command, kinds-of-loop}
 
 -- a refusal
 pub back-judge : (n : ℕ) → n < 256 → unpacked [] (word [] (n ∷ [])) ≡ n ∷ []
@@ -57,35 +57,37 @@ back-clause i r t l m n = go (word kinds-of-probe (0 ∷ 1 ∷ i ∷ r ∷ t ∷
         let z = between target w 0 t (256 + i * 65536 + r * 4294967296) (omega arith) (omega arith) n in
         given [] ((clause ∷ referrer ∷ target ∷ []) ∷ []) w 1 a b ∙ cc (x, y, z)
 
--- the state and the moves of a when phase, of a kind that has these two
-pub back-reached : (k q m : ℕ) → k < 256 → q < 256 → m < 256 → getD kinds-of-phase k [] ≡ state ∷ moves ∷ []
-    → unpacked kinds-of-phase (word kinds-of-phase (0 ∷ k ∷ q ∷ m ∷ [])) ≡ 0 ∷ k ∷ q ∷ m ∷ []
+-- the state, the moves and the bytes of a when phase, of a kind that has these three
+pub back-reached : (k q m n : ℕ) → k < 256 → q < 256 → m < 256 → n < 16777216 → getD kinds-of-phase k [] ≡ way
+    → unpacked kinds-of-phase (word kinds-of-phase (0 ∷ k ∷ q ∷ m ∷ n ∷ [])) ≡ 0 ∷ k ∷ q ∷ m ∷ n ∷ []
 unfolding word fields side-by-side
-back-reached k q m l o p f = go (word kinds-of-phase (0 ∷ k ∷ q ∷ m ∷ [])) (rw f (omega arith))
+back-reached k q m n l o p r f = go (word kinds-of-phase (0 ∷ k ∷ q ∷ m ∷ n ∷ [])) (rw f (omega arith))
   where
-    go : (w : ℕ) → w ≡ k * 256 + q * 65536 + m * 16777216 → unpacked kinds-of-phase w ≡ 0 ∷ k ∷ q ∷ m ∷ []
+    go : (w : ℕ) → w ≡ k * 256 + q * 65536 + m * 16777216 + n * 1099511627776 → unpacked kinds-of-phase w ≡ 0 ∷ k ∷ q ∷ m ∷ n ∷ []
     go w e =
-        let (a, b) = front w k (q + 256 * m) (omega arith) l in
-        let x = state-in w k q m (omega arith) l o in
-        let y = between moves w 0 m (k * 256 + q * 65536) (omega arith) (omega arith) p in
-        given (state ∷ moves ∷ []) ((state ∷ moves ∷ []) ∷ (state ∷ moves ∷ to-do ∷ []) ∷ (state ∷ moves ∷ []) ∷ []) w k a b
-        ∙ ap (λ (fs : List Field). 0 ∷ k ∷ map (read w) fs) f ∙ cc (x, y)
+        let (a, b) = front w k (q + 256 * m + 16777216 * n) (omega arith) l in
+        let x = state-in w k q (m + 65536 * n) (omega arith) l o in
+        let y = between moves w (256 * n) m (k * 256 + q * 65536) (omega arith) (omega arith) p in
+        let z = between phase-written w 0 n (k * 256 + q * 65536 + m * 16777216) (omega arith) (omega arith) r in
+        given way (way ∷ (state ∷ moves ∷ phase-written ∷ to-do ∷ []) ∷ way ∷ []) w k a b ∙ ap (λ (fs : List Field). 0 ∷ k ∷ map (read w) fs) f ∙ cc (x, y, z)
 
--- the same with the command of a DO
-pub back-do : (q m c : ℕ) → q < 256 → m < 256 → c < 256 → unpacked kinds-of-phase (word kinds-of-phase (0 ∷ 2 ∷ q ∷ m ∷ c ∷ [])) ≡ 0 ∷ 2 ∷ q ∷ m ∷ c ∷ []
+-- the same with the command of a closing DO
+pub back-do : (q m n c : ℕ) → q < 256 → m < 256 → n < 16777216 → c < 256
+    → unpacked kinds-of-phase (word kinds-of-phase (0 ∷ 2 ∷ q ∷ m ∷ n ∷ c ∷ [])) ≡ 0 ∷ 2 ∷ q ∷ m ∷ n ∷ c ∷ []
 unfolding word fields side-by-side
-back-do q m c l o p = go (word kinds-of-phase (0 ∷ 2 ∷ q ∷ m ∷ c ∷ [])) (omega arith)
+back-do q m n c l o r p = go (word kinds-of-phase (0 ∷ 2 ∷ q ∷ m ∷ n ∷ c ∷ [])) (omega arith)
   where
-    go : (w : ℕ) → w ≡ 512 + q * 65536 + m * 16777216 + c * 4294967296 → unpacked kinds-of-phase w ≡ 0 ∷ 2 ∷ q ∷ m ∷ c ∷ []
+    go : (w : ℕ) → w ≡ 512 + q * 65536 + m * 16777216 + c * 4294967296 + n * 1099511627776 → unpacked kinds-of-phase w ≡ 0 ∷ 2 ∷ q ∷ m ∷ n ∷ c ∷ []
     go w e =
-        let (a, b) = front w 2 (q + 256 * m + 65536 * c) (omega arith) (omega arith) in
-        let x = state-in w 2 q (m + 256 * c) (omega arith) (omega arith) l in
-        let y = between moves w c m (512 + q * 65536) (omega arith) (omega arith) o in
-        let z = between to-do w 0 c (512 + q * 65536 + m * 16777216) (omega arith) (omega arith) p in
-        given (state ∷ moves ∷ []) ((state ∷ moves ∷ []) ∷ (state ∷ moves ∷ to-do ∷ []) ∷ (state ∷ moves ∷ []) ∷ []) w 2 a b ∙ cc (x, y, z)
+        let (a, b) = front w 2 (q + 256 * m + 65536 * c + 16777216 * n) (omega arith) (omega arith) in
+        let x = state-in w 2 q (m + 256 * c + 65536 * n) (omega arith) (omega arith) l in
+        let y = between moves w (c + 256 * n) m (512 + q * 65536) (omega arith) (omega arith) o in
+        let z = between phase-written w 0 n (512 + q * 65536 + m * 16777216 + c * 4294967296) (omega arith) (omega arith) r in
+        let u = between to-do w n c (512 + q * 65536 + m * 16777216) (omega arith) (omega arith) p in
+        given way (way ∷ (state ∷ moves ∷ phase-written ∷ to-do ∷ []) ∷ way ∷ []) w 2 a b ∙ cc (x, y, z, u)
 
 -- the state of a command and the bytes written; both kinds have them
-pub back-command : (k q n : ℕ) → k < 256 → q < 256 → n < 4294967296 → getD kinds-of-command k [] ≡ state ∷ bytes-written ∷ []
+pub back-command : (k q n : ℕ) → k < 256 → q < 256 → n < 4294967296 → getD kinds-of-command k [] ≡ state ∷ command-written ∷ []
     → unpacked kinds-of-command (word kinds-of-command (0 ∷ k ∷ q ∷ n ∷ [])) ≡ 0 ∷ k ∷ q ∷ n ∷ []
 unfolding word fields side-by-side
 back-command k q n l o p f = go (word kinds-of-command (0 ∷ k ∷ q ∷ n ∷ [])) (rw f (omega arith))
@@ -94,8 +96,8 @@ back-command k q n l o p f = go (word kinds-of-command (0 ∷ k ∷ q ∷ n ∷ 
     go w e =
         let (a, b) = front w k (q + 65536 * n) (omega arith) l in
         let x = state-in w k q (256 * n) (omega arith) l o in
-        let y = between bytes-written w 0 n (k * 256 + q * 65536) (omega arith) (omega arith) p in
-        given (state ∷ bytes-written ∷ []) ((state ∷ bytes-written ∷ []) ∷ []) w k a b ∙ ap (λ (fs : List Field). 0 ∷ k ∷ map (read w) fs) f ∙ cc (x, y)
+        let y = between command-written w 0 n (k * 256 + q * 65536) (omega arith) (omega arith) p in
+        given (state ∷ command-written ∷ []) ((state ∷ command-written ∷ []) ∷ []) w k a b ∙ ap (λ (fs : List Field). 0 ∷ k ∷ map (read w) fs) f ∙ cc (x, y)
 
 -- the moves of a class that is free of loops; the configuration and the state of a loop
 pub back-free : (m : ℕ) → m < 256 → unpacked kinds-of-loop (word kinds-of-loop (0 ∷ 0 ∷ m ∷ [])) ≡ 0 ∷ 0 ∷ m ∷ []

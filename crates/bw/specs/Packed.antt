@@ -1,13 +1,12 @@
 -- The word that each exported function returns: the paper's numbers of the answer, each in its field of bits.
 -- Assumes nothing.
-use Prim.Native.Nat.{ℕ, _+_, _*_, _/_, _%_, _^_}
+use Prim.Native.Nat.{ℕ, _+_, _*_, _/_, _%_, _^_, _≤_}
 use mathlib.Core.Path.{_≡_}
 use mathlib.Core.List.{List, [], _∷_, map}
 use lib.Dec.{eqb}
-use lib.ListN.{getD}
-use Rattle.model.specs.Words.{choose}
-use Rattle.model.specs.Words.{Bytes}
-use Rattle.model.specs.Replies.{buffer-after}
+use lib.ListN.{length, getD}
+use Rattle.model.specs.Words.{choose, Bytes}
+use Rattle.model.specs.Replies.{refuse, buffer-after}
 use Rattle.bargewicker.specs.Questions.{Question, judge, probe-in, phase-from, command-in, loop-with, lent, reply}
 use Rattle.bargewicker.specs.Numbers.{numbers-for}
 
@@ -36,7 +35,7 @@ referrer = field 32 8
 abbrev pub target : Field
 target = field 40 8
 
--- own states and moves; the command of a DO
+-- own states and moves; the command of the DO that closed a phase, and the number of bytes that a phase wrote
 abbrev pub state : Field
 state = field 16 8
 
@@ -46,22 +45,28 @@ moves = field 24 8
 abbrev pub to-do : Field
 to-do = field 32 8
 
--- the number of bytes written; the configuration of a loop
-abbrev pub bytes-written : Field
-bytes-written = field 32 32
+abbrev pub phase-written : Field
+phase-written = field 40 24
+
+-- the number of bytes that a command wrote; the configuration of a loop
+abbrev pub command-written : Field
+command-written = field 32 32
 
 abbrev pub configuration : Field
 configuration = field 32 32
 
--- the fields of each kind of answer, in the order of its numbers, kind 0 first
+-- the fields of each kind of answer, in the order of its numbers, kind 0 first; every phase has the same three
 abbrev pub kinds-of-probe : List (List Field)
 kinds-of-probe = [] ∷ (clause ∷ referrer ∷ target ∷ []) ∷ []
 
+abbrev pub way : List Field
+way = state ∷ moves ∷ phase-written ∷ []
+
 abbrev pub kinds-of-phase : List (List Field)
-kinds-of-phase = (state ∷ moves ∷ []) ∷ (state ∷ moves ∷ []) ∷ (state ∷ moves ∷ to-do ∷ []) ∷ (state ∷ moves ∷ []) ∷ []
+kinds-of-phase = way ∷ way ∷ (state ∷ moves ∷ phase-written ∷ to-do ∷ []) ∷ way ∷ []
 
 abbrev pub kinds-of-command : List (List Field)
-kinds-of-command = (state ∷ bytes-written ∷ []) ∷ (state ∷ bytes-written ∷ []) ∷ []
+kinds-of-command = (state ∷ command-written ∷ []) ∷ (state ∷ command-written ∷ []) ∷ []
 
 abbrev pub kinds-of-loop : List (List Field)
 kinds-of-loop = (moves ∷ []) ∷ (configuration ∷ state ∷ []) ∷ []
@@ -69,7 +74,7 @@ kinds-of-loop = (moves ∷ []) ∷ (configuration ∷ state ∷ []) ∷ []
 abbrev pub kinds : Question → List (List Field)
 kinds (judge b) = []
 kinds (probe-in b l q) = kinds-of-probe
-kinds (phase-from b l q) = kinds-of-phase
+kinds (phase-from b l q out) = kinds-of-phase
 kinds (command-in b l q m out) = kinds-of-command
 kinds (loop-with b present out) = kinds-of-loop
 
@@ -114,7 +119,7 @@ unpacked (k ∷ ks) w = choose (eqb (read w refused) 0) (λ _. 0 ∷ read w kind
 abbrev pub sheet-of : Question → List ℕ
 sheet-of (judge b) = b
 sheet-of (probe-in b l q) = b
-sheet-of (phase-from b l q) = b
+sheet-of (phase-from b l q out) = b
 sheet-of (command-in b l q m out) = b
 sheet-of (loop-with b present out) = b
 
@@ -125,3 +130,7 @@ NothingLost = (q : Question) → Bytes (sheet-of q) → unpacked (kinds q) (pack
 -- two words that a function returns, and two contents of the buffer afterwards, are one
 abbrev pub OneWordAndBuffer : Type 0
 OneWordAndBuffer = (q : Question) (r s : ℕ) (x y : List ℕ) → Returned q r x → Returned q s y → (r ≡ s) × (x ≡ y)
+
+-- a buffer of 12,582,912 bytes is always enough for what a when phase writes
+abbrev pub PhaseRoomEnough : Type 0
+PhaseRoomEnough = (b l : List ℕ) (q : ℕ) (out : List ℕ) → Bytes b → 12582912 ≤ length out → reply (phase-from b l q out) ≡ refuse 15 → ⊥

@@ -17,8 +17,8 @@ use model::Referrer;
 use model::refusal_number;
 ghost use mathlib.Core.Path.{_≡_};
 ghost use mathlib.Core.List.{[], _∷_};
-ghost use Rattle.model.specs.Values.{probed-values, settled-values, phase-values};
-ghost use Rattle.model.specs.Answers.{probed-as, ending-as, phase-as, handled-values, looped-values, judge-numbers, probe-numbers, phase-numbers, command-numbers, loop-numbers};
+ghost use Rattle.model.specs.Values.{probed-values, settled-values};
+ghost use Rattle.model.specs.Answers.{probed-as, ending-as, phased-values, handled-values, looped-values, judge-numbers, probe-numbers, phase-numbers, command-numbers, loop-numbers};
 ghost use Rattle.bargewicker.specs.Questions.{judge, probe-in, phase-from, command-in, loop-with};
 ghost use Rattle.readings.specs.Promise.{asked, reading-as};
 ghost use Rattle.bw.specs.Packed.{word, kinds-of-probe, kinds-of-phase, kinds-of-command, kinds-of-loop, Returned};
@@ -43,6 +43,8 @@ const CONFIGURATION: u64 = 0x100000000;
 
 const TARGET: u64 = 0x10000000000;
 
+const SENT: u64 = 0x10000000000;
+
 const PLACE: u64 = 0x100;
 
 const STATES: u64 = 0x10000;
@@ -65,12 +67,12 @@ pub extern "C" fn bw_probe(sheet: &[u8], children: &[u8], state: u8) -> u64
     pack_probe(bargewicker::probe(sheet, children, state))
 }
 
-// Where does the when phase from the state settle with these children, or does it loop?
+// Where does the when phase from the state settle with these children, and what do its DOs send on the way, or does it loop?
 #[no_mangle]
-pub extern "C" fn bw_when_phase(sheet: &[u8], children: &[u8], state: u8) -> u64
-    ensures { λ r. ⌜ Returned (phase-from (now (sheet .entry)) (now (children .entry)) state) r [] ⌝ }
+pub extern "C" fn bw_when_phase(sheet: &[u8], children: &[u8], state: u8, out: &mut [u8]) -> u64
+    ensures { λ r. ⌜ Returned (phase-from (now (sheet .entry)) (now (children .entry)) state (now (out .entry))) r (now (out .exit)) ⌝ }
 {
-    pack_phase(bargewicker::when_phase(sheet, children, state))
+    pack_phase(bargewicker::when_phase(sheet, children, state, out))
 }
 
 // What does the command send to which children, and which state does it leave?
@@ -180,23 +182,23 @@ fn pack_clause(number: usize, referrer: Referrer) -> u64
 
 // A when phase.
 fn pack_phased(phase: Phase) -> u64
-    ensures { λ r. ⌜ r ≡ word kinds-of-phase (0 ∷ phase-values (phase-as phase)) ⌝ }
+    ensures { λ r. ⌜ r ≡ word kinds-of-phase (0 ∷ phased-values phase) ⌝ }
 {
     match phase {
-        Phase::Settled(e, q, m) => pack_settled(e, q, m),
+        Phase::Settled(e, q, m, n) => pack_settled(e, q, m, n),
         Phase::Loops(q, m) => 3 * KIND + (q.0 as u64) * STATE + (m as u64) % 256 * MOVES,
     }
 }
 
-// A settled phase: by what, the state, the moves.
-fn pack_settled(ending: Ending, q: OwnState, m: usize) -> u64
-    ensures { λ r. ⌜ r ≡ word kinds-of-phase (0 ∷ settled-values (ending-as ending) (q .0) m) ⌝ }
+// A settled phase: by what, the state, the moves, the bytes written.
+fn pack_settled(ending: Ending, q: OwnState, m: usize, n: usize) -> u64
+    ensures { λ r. ⌜ r ≡ word kinds-of-phase (0 ∷ settled-values (ending-as ending) (q .0) m n) ⌝ }
 {
-    let reached = (q.0 as u64) * STATE + (m as u64) % 256 * MOVES;
+    let way = (q.0 as u64) * STATE + (m as u64) % 256 * MOVES + (n as u64) % 16777216 * SENT;
     match ending {
-        Ending::ByNone => reached,
-        Ending::ByStay => KIND + reached,
-        Ending::ByDo(c) => 2 * KIND + reached + (c as u64) * TO_DO,
+        Ending::ByNone => way,
+        Ending::ByStay => KIND + way,
+        Ending::ByDo(c) => 2 * KIND + way + (c as u64) * TO_DO,
     }
 }
 

@@ -1,0 +1,57 @@
+-- How many bytes a when phase writes, for a sheet of bytes that is accepted, and that so much room is enough.
+-- Assumes nothing.
+use Prim.Native.Nat.{ℕ, _*_, _<_, _≤_}
+use native.Mathlib.Omega.{arith}
+use native.Mathlib.Nat.{mul-le-mul-right}
+use mathlib.Core.Path.{_≡_, refl}
+use mathlib.Core.List.{List}
+use lib.Dec.{leb}
+use lib.ListN.{length}
+use borrow.Author.Tests.{le-leb}
+use Rattle.model.specs.Tree.{Child, Class}
+use Rattle.model.specs.Node.{own-states, Phase, settled, loops, phase}
+use Rattle.model.specs.Words.{Bytes}
+use Rattle.model.specs.Replies.{Reply, refuse, give}
+use Rattle.model.proofs.PhaseSize.{class-size, phase-sends}
+use Rattle.sheet.specs.Rules.{Accepted}
+use Rattle.sheet.specs.Reading.{class-of}
+use Rattle.sheet.proofs.Rules.{accepted-right}
+use Rattle.sheet.proofs.Sizes.{class-few}
+use Rattle.sheet.proofs.Sound.{sound}
+use Rattle.children.specs.ChildList.{children-of, sent-bytes}
+use Rattle.children.proofs.ChildListLaws.{three-each, children-most}
+use Rattle.phases.specs.Phasing.{bytes-of-phase, reply-phase}
+use Rattle.bargewicker.specs.Questions.{Answer, phased, phase-from, reply}
+use Rattle.bw.specs.Packed.{PhaseRoomEnough}
+use Rattle.bw.proofs.Checks.{placed-by}
+
+module _ (b : List ℕ) (h : Bytes b) (a : Accepted b) (ks : List Child) where
+  abbrev c : Class
+  c = class-of b
+
+  -- three bytes for each of at most 1,024 statements and 4,096 children
+  pub phase-small : (q : ℕ) → q < own-states c → length ks ≤ 4096 → length (bytes-of-phase (phase c ks q)) ≤ 12582912
+  unfolding bytes-of-phase sent-bytes
+  phase-small q low k = go (phase c ks q) refl
+    where
+      go : (p : Phase) → phase c ks q ≡ p → length (bytes-of-phase p) ≤ 12582912
+      go (loops r m) e = omega arith
+      go (settled x r m sent) e =
+          omega (arith, three-each sent, phase-sends c ks (sound b h a) q low x r m sent e, mul-le-mul-right (length ks) (class-few b (accepted-right b a)))
+
+-- 15 is not given
+abbrev Roomy : Reply Answer → Type 0
+Roomy r = r ≡ refuse 15 → ⊥
+
+pub phase-room-enough : PhaseRoomEnough
+unfolding reply reply-phase
+phase-room-enough b l q out h room =
+    placed-by Roomy 14 other b l q _ (omega arith) λ a right low.
+    let small = phase-small b h a (children-of l) q low (children-most (class-of b) l right) in
+    rw (le-leb (length (bytes-of-phase (phase (class-of b) (children-of l) q))) (length out) (omega arith)) given
+  where
+    other : (n : ℕ) → 1 ≤ n → n ≤ 14 → Roomy (refuse n)
+    other n l m e = let z : n ≡ 15 = cc in omega arith
+
+    given : {x : Answer} {ns : List ℕ} → Roomy (give x ns)
+    given e = let z : _≡_ {A = ℕ} 0 1 = cc in omega arith
