@@ -1,4 +1,4 @@
--- The worked cases marked P hold of the rules: one equation, computed from the bytes of sheets A, B and C, and the law that gives each entry.
+-- The worked cases hold of the rules: one equation, computed from the bytes of the sheets, and the law that gives each entry.
 -- Assumes nothing.
 use mathlib.Core.Path.{_≡_, refl, sym, _∙_, ap}
 use mathlib.Core.List.{List, [], _∷_, map, List·Memᴰ, List·Memᴰ·not-nil, List·Memᴰ·cases-cons, head-eq-of-cons-eq, tail-eq-of-cons-eq}

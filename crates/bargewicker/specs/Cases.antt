@@ -1,8 +1,10 @@
--- The worked cases of the paper that are marked P, as one table: what each question gives on the paper's sheets A, B and C.
+-- The worked cases of the paper that are marked P, and behind them some in which a DO moves the node, as one table: what each question gives on the
+-- paper's sheets A, B and C, and on three made of C.
 -- Assumes nothing.
 use Prim.Native.Nat.{ℕ}
 use mathlib.Core.Path.{_≡_}
 use mathlib.Core.List.{List, [], _∷_, map, List·Memᴰ}
+use lib.ListN.{set}
 use Rattle.model.specs.Replies.{buffer-after}
 use Rattle.sheet.specs.Samples.{sheet-A, sheet-B, sheet-C}
 use Rattle.bargewicker.specs.Questions.{Question, phase-from, command-in, loop-with, reply, lent}
@@ -28,6 +30,18 @@ six = 91 ∷ 92 ∷ 93 ∷ 94 ∷ 95 ∷ 96 ∷ []
 
 abbrev pub seven : List ℕ
 seven = 91 ∷ 92 ∷ 93 ∷ 94 ∷ 95 ∷ 96 ∷ 97 ∷ []
+
+-- C in which READY does its action clause where any heater is not in HOT
+abbrev pub sheet-D : List ℕ
+sheet-D = set (set sheet-C 38 1) 39 0
+
+-- D in which that clause moves to HOLD where any heater is not in HOT
+abbrev pub sheet-E : List ℕ
+sheet-E = set sheet-D 74 0
+
+-- E in which it moves to READY, where it stands
+abbrev pub sheet-F : List ℕ
+sheet-F = set sheet-E 81 0
 
 -- a question, the paper's numbers of its answer, and the lent buffer afterwards
 pub record Case : Type 0 where
@@ -63,7 +77,16 @@ cases =
     -- 10: list 00 03: 10; state 2: 11; command 64: 12
     asks (phase-from sheet-A (0 ∷ 3 ∷ []) 0 five) (10 ∷ []) five ∷
     asks (phase-from sheet-A hot 2 five) (11 ∷ []) five ∷
-    asks (command-in sheet-A hot 0 64 seven) (12 ∷ []) seven ∷ []
+    asks (command-in sheet-A hot 0 64 seven) (12 ∷ []) seven ∷
+    -- a DO that reaches no move_to ends the phase: settled by DO, state 0, 0 moves, 6 bytes, command 9; 15 where one is missing
+    asks (phase-from sheet-D cold 0 seven) (0 ∷ 2 ∷ 0 ∷ 0 ∷ 6 ∷ 9 ∷ []) (0 ∷ 0 ∷ 4 ∷ 0 ∷ 0 ∷ 5 ∷ 97 ∷ []) ∷
+    asks (phase-from sheet-D cold 0 five) (15 ∷ []) five ∷
+    -- a DO that reaches one moves: settled by none, state 1, 1 move, and 00 00 04, which it sent in front of the move_to; free, 1 move
+    asks (phase-from sheet-E cold 0 seven) (0 ∷ 0 ∷ 1 ∷ 1 ∷ 3 ∷ []) (0 ∷ 0 ∷ 4 ∷ 94 ∷ 95 ∷ 96 ∷ 97 ∷ []) ∷
+    asks (loop-with sheet-E 1 seven) (0 ∷ 0 ∷ 1 ∷ []) seven ∷
+    -- a DO that moves to the own state loops, writes nothing and needs no room; loop, configuration 1, state 0, list 00 00
+    asks (phase-from sheet-F cold 0 []) (0 ∷ 3 ∷ 0 ∷ 2 ∷ 0 ∷ []) [] ∷
+    asks (loop-with sheet-F 1 seven) (0 ∷ 1 ∷ 1 ∷ 0 ∷ []) (0 ∷ 0 ∷ 93 ∷ 94 ∷ 95 ∷ 96 ∷ 97 ∷ []) ∷ []
 
 -- what the rules give for the question of a case
 unfoldable pub given : Case → Case

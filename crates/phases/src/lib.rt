@@ -68,8 +68,8 @@ fn run_do(
     let moved = ran.moved;
     let end = ran.at;
     match moved {
-        Moved::To(t) => Turned {
-            turn: Turn::Moves(t),
+        Moved::To(to) => Turned {
+            turn: Turn::Moves(to),
             at: end,
         },
         Moved::Not => Turned {
