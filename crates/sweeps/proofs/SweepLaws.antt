@@ -1,16 +1,17 @@
 -- Laws about statements run on a set of lanes: lanes added to a row, one run after the other, the split by a guard's word, and a law for each
 -- way out of the code.
 -- Assumes nothing.
-use Prim.Native.Nat.{ℕ, _+_, _*_, _^_, _<_, _≤_}
+use Prim.Native.Nat.{ℕ, _+_, _-_, _*_, _^_, _<_, _≤_}
 use native.Mathlib.Omega.{arith}
 use native.Mathlib.Decide.{ℕ-discrete}
 use mathlib.Core.Path.{_≡_, refl, sym, ap, _∙_}
 use mathlib.Core.Bool.{Bool, true, false, _&&_, _||_, not, and-true, and-false, or-false}
 use mathlib.Core.List.{List}
+use mathlib.Core.Logic.{_⊎_, inl, inr}
 use mathlib.Core.Option.{Option, none, some}
 use lib.Dec.{eqb}
-use lib.ListN.{length, getD, set, length-set}
-use lib.Seq.{getD-set-same, getD-set-other}
+use lib.ListN.{length, getD, set, drop, take, length-set, length-drop, drop-of-length-le}
+use lib.Seq.{getD-set-same, getD-set-other, take-all, drop-drop}
 use lib.Bits.{bitAnd, bitOr, or-lt}
 use borrow.Author.Tests.{eq-eqb, ne-eqb}
 use Rattle.model.specs.Words.{has, choose, maybe, is-some}
@@ -18,13 +19,16 @@ use Rattle.model.specs.Tree.{Child, Guard, Statement, branch, Part, _then_}
 use Rattle.model.specs.Guards.{holds}
 use Rattle.model.specs.Moves.{is-at}
 use Rattle.model.specs.declared.OwnState.{OwnState}
+use Rattle.model.proofs.Words.{lt-or-le}
 use Rattle.model.proofs.Bits.{has-none}
 use Rattle.model.proofs.Masks.{has-and, has-or}
 use Rattle.records.specs.Patterns.{pattern-as}
 use Rattle.records.specs.declared.kinds.Pattern.{Pattern}
-use Rattle.bodies.specs.StatementReaders.{statement-record, then-part, else-part, behind-statement}
+use Rattle.bodies.specs.StatementReaders.{statement-record, records-beside, then-part, else-part, behind-statement}
 use Rattle.bodies.specs.declared.statements.Branch.{Branch}
+use Rattle.bodies.specs.declared.statements.StatementRecord.{StatementRecord}
 use Rattle.bodies.specs.declared.statements.StatementRecord.the-variants.{Do, MoveTo, If, Unknown}
+use Rattle.bodies.proofs.ReaderLaws.{behind-falls}
 use Rattle.bodies.proofs.ReadLaws.{read-end, read-do, read-move, read-if}
 use Rattle.lanes.specs.Lanes.{Lanes, opposite}
 use Rattle.lanes.proofs.LaneLaws.{lanes-not}
@@ -171,7 +175,7 @@ module _ (q t lanes : ℕ) (table : List ℕ) where
         };
       }
 
--- the ways out of `sweep_list`
+-- a list by the statement at its front, and the way out of `sweep_if`
 module _ (words part : List ℕ) (q mask : ℕ) (before : List ℕ) where
   pub sweep-empty : mask ≡ 0 → SweepsPart words part q mask before before 0
   sweep-empty z = record { kept = kept-same q before; sweeps = λ gs ks W p R. swept-empty ks q (goes p) mask before z }
@@ -213,7 +217,6 @@ module _ (words part : List ℕ) (q mask : ℕ) (before : List ℕ) where
             swept-as ks q (λ l. ap (λ (x : Part). goes x l) (B .begins .is) ∙ goes-then s (B .begins .rest) l) (swept-then ks q (goes-one s) (goes (B .begins .rest)) mask mid left before between after F G);
       }
 
-  -- the way out of `sweep_if`
   pub sweep-if : (b : Branch) → If b ≡ statement-record part → (w : ℕ) → w ≡ getD words (b .guard) 0 → {l₁ : ℕ} {between : List ℕ} (p : List ℕ) → p ≡ then-part b part
       → SweepsPart words p q (bitAnd mask w) before between l₁ → {l₂ : ℕ} {after : List ℕ} (o : List ℕ) → o ≡ else-part b part → SweepsPart words o q (bitAnd mask (opposite w)) between after l₂
       → SweepsIf words part q mask before after (bitOr l₁ l₂)
@@ -228,3 +231,71 @@ module _ (words part : List ℕ) (q mask : ℕ) (before : List ℕ) where
             let G = C .sweeps gs ks W (B .second) (rw eo (B .second-reads)) in
             swept-as ks q (λ l. ap (λ (x : Statement). goes-one x l) z ∙ goes-branch (B .guard) (B .first) (B .second) l) (swept-choose ks q (B .guard) (goes (B .first)) (goes (B .second)) w mask l₁ l₂ before between after L F G);
       }
+
+-- the statements before byte `at` were run, and who runs the rest on the lanes that are left has run all
+pub record Sweeping (words part : List ℕ) (q mask : ℕ) (before : List ℕ) (at : ℕ) (table : List ℕ) (left : ℕ) : Type 0 where
+  pub inside : at ≤ length part
+  pub long : length table ≡ length before
+  pub on : (after : List ℕ) (last : ℕ) → SweepsPart words (drop at part) q left table after last → SweepsPart words part q mask before after last
+
+module _ (words part : List ℕ) (q mask : ℕ) (before : List ℕ) where
+  pub sweeping-start : Sweeping words part q mask before 0 before mask
+  sweeping-start = record { inside = omega arith; long = refl; on = λ after last S. S }
+
+  pub sweeping-end : (at : ℕ) (table : List ℕ) (left : ℕ) → Sweeping words part q mask before at table left → left ≡ 0 → SweepsPart words part q mask before table 0
+  sweeping-end at table left S z = S .on table 0 (sweep-empty words (drop at part) q left table z)
+
+  module _ (at : ℕ) (table : List ℕ) (left : ℕ) (S : Sweeping words part q mask before at table left) (rest : List ℕ) (e : rest ≡ take (length part - at) (drop at part)) where
+    here : rest ≡ drop at part
+    here = e ∙ take-all (length part - at) (drop at part) (omega (arith, length-drop at part))
+
+    length-here : length rest ≡ length part - at
+    length-here = ap length here ∙ length-drop at part
+
+    -- where the list behind a statement stands
+    behind-here : (n : ℕ) (p : List ℕ) → p ≡ drop n rest → drop (length part - length p) part ≡ drop n (drop at part)
+    behind-here n p ep = go (lt-or-le (at + n) (length part))
+      where
+        long : length p ≡ length part - at - n
+        long = ap length ep ∙ length-drop n rest ∙ ap (λ (k : ℕ). k - n) length-here
+
+        go : (at + n < length part) ⊎ (length part ≤ at + n) → drop (length part - length p) part ≡ drop n (drop at part)
+        go (inl l) = let z : length part - length p ≡ at + n = (let m = long in omega arith) in rw (z, drop-drop n at part)
+        go (inr l) =
+            let i = S .inside in
+            let z : length part - length p ≡ length part = (let m = long in omega arith) in
+            let w : length part ≤ length part = omega arith in
+            rw (z, drop-drop n at part, drop-of-length-le part w, drop-of-length-le part l)
+
+    pub sweeping-sent : (m : ℕ) (c : Pattern) → Do m c ≡ statement-record rest → (p : List ℕ) → p ≡ behind-statement (Do m c) rest → Sweeping words part q mask before (length part - length p) table left
+    sweeping-sent m c f p ep =
+        record {
+          inside = omega arith;
+          long = S .long;
+          on = λ after last R. S .on after last (sweep-sent words (drop at part) q left table m c (f ∙ ap statement-record here) (drop (length part - length p) part) (behind-here (1 * 8) p ep) R);
+        }
+
+    pub sweeping-on : (b : Branch) → If b ≡ statement-record rest → {mid : ℕ} {between : List ℕ} → SweepsIf words rest q left table between mid → (p : List ℕ) → p ≡ behind-statement (If b) rest
+        → Sweeping words part q mask before (length part - length p) between mid
+    sweeping-on b f done p ep =
+        record {
+          inside = omega arith;
+          long = done .kept .long ∙ S .long;
+          on = λ after last R. S .on after last (sweep-on words (drop at part) q left table b (f ∙ ap statement-record here) (rw here at done) (drop (length part - length p) part) (behind-here ((1 + (b .thens + b .elses)) * 8) p ep) R);
+        }
+
+    pub swept-go : (s : OwnState) (t : ℕ) (after : List ℕ) → MoveTo s ≡ statement-record rest → t ≡ s .0 → Adds q t left table after → SweepsPart words part q mask before after 0
+    swept-go s t after f et A = S .on after 0 (sweep-go words (drop at part) q left table s t after (f ∙ ap statement-record here) et A)
+
+    pub swept-nothing : Unknown ≡ statement-record rest → SweepsPart words part q mask before table left
+    swept-nothing f = S .on table left (sweep-nothing words (drop at part) q left table (f ∙ ap statement-record here))
+
+    -- the rest is no longer than the list, and gets shorter
+    pub rest-short : length rest ≤ length part
+    rest-short = let m = length-here in omega arith
+
+    pub behind-short : (r : StatementRecord) (p : List ℕ) → p ≡ behind-statement r rest → length p ≤ length part
+    behind-short r p ep = let m = length-here in omega (arith, ap length ep, length-drop ((1 + records-beside r) * 8) rest)
+
+    pub rest-falls : (r : StatementRecord) (p : List ℕ) → 8 ≤ length rest → p ≡ behind-statement r rest → length part - (length part - length p) < length part - at
+    rest-falls r p l ep = let f = behind-falls r rest p l ep in let m = length-here in omega arith

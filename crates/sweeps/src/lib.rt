@@ -31,24 +31,29 @@ pub fn sweep_list(words: &[u64], part: &[u8], q: usize, mask: u64, table: &mut [
     requires { ⌜ (q < 32) × (length (now table) ≡ 1280) ⌝ }
     ensures { λ r. ⌜ SweepsPart (now (words .entry)) (now (part .entry)) q mask (now (table .entry)) (now (table .exit)) r ⌝ }
 {
-    if mask == 0 {
-        return 0;
+    let mut at = 0;
+    let mut left = mask;
+    while left != 0 {
+        let rest = &part[at..];
+        let front = statement_record(rest);
+        match front {
+            StatementRecord::Do(_, _) => {
+                at = part.len() - behind_statement(front, rest).len();
+            }
+            StatementRecord::MoveTo(t) => {
+                add_lanes(table, q, t.0 as usize, left);
+                return 0;
+            }
+            StatementRecord::If(branch) => {
+                left = sweep_if(words, branch, rest, q, left, table);
+                at = part.len() - behind_statement(front, rest).len();
+            }
+            StatementRecord::Unknown => {
+                return left;
+            }
+        }
     }
-    let front = statement_record(part);
-    match front {
-        StatementRecord::Do(_, _) => {
-            sweep_list(words, behind_statement(front, part), q, mask, table)
-        }
-        StatementRecord::MoveTo(t) => {
-            add_lanes(table, q, t.0 as usize, mask);
-            0
-        }
-        StatementRecord::If(branch) => {
-            let left = sweep_if(words, branch, part, q, mask, table);
-            sweep_list(words, behind_statement(front, part), q, left, table)
-        }
-        StatementRecord::Unknown => mask,
-    }
+    0
 }
 
 // Runs the if at the front of a list: its then-part on the lanes in which the guard is true, its else-part on the others.

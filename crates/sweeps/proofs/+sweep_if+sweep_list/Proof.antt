@@ -1,16 +1,18 @@
--- `sweep_list` runs one statement after the other, and `sweep_if` each part on the lanes that its guard chooses: a law for each way out.
--- With each call the bytes get fewer, but for the call of `sweep_if`, whose measure is one less on the same bytes.
+-- `sweep_list` runs one statement after the other: who runs the rest of the list on the lanes that are left has run all, and each turn the rest
+-- gets shorter. `sweep_if` runs each part on the lanes that its guard chooses. With each call the bytes get fewer, but for the call of
+-- `sweep_if`, whose measure is one less on the same bytes.
 -- Assumes nothing.
 use borrow.Author.Needs.{needs}
-use Prim.Native.Nat.{ℕ, _+_, _*_, _<_}
+use Prim.Native.Nat.{ℕ, _+_, _-_, _*_, _<_}
 use native.Mathlib.Omega.{arith}
 use mathlib.Core.Path.{_≡_, refl, sym, ap, _∙_}
-use lib.ListN.{length}
+use mathlib.Core.List.{List}
+use lib.ListN.{length, take, drop}
 use Rattle.bodies.specs.StatementReaders.{statement-record, behind-statement}
 use Rattle.bodies.specs.declared.statements.StatementRecord.{StatementRecord}
 use Rattle.bodies.specs.declared.statements.StatementRecord.the-variants.{Do, If}
-use Rattle.bodies.proofs.ReaderLaws.{told, behind-falls, parts-fall}
-use Rattle.sweeps.proofs.SweepLaws.{sweep-empty, sweep-nothing, sweep-go, sweep-sent, sweep-on, sweep-if as swept-if}
+use Rattle.bodies.proofs.ReaderLaws.{told, parts-fall}
+use Rattle.sweeps.proofs.SweepLaws.{sweep-if as swept-if, Sweeping, sweeping-start, sweeping-end, sweeping-sent, sweeping-on, swept-go, swept-nothing, rest-short, behind-short, rest-falls}
 use borrow.Fn.Kinds.{In}
 use borrow.Fn.PlainCycle.{Measures, is, falls, and}
 use Rattle.sweeps.proofs.sweep_if.Reads as sweep-if
@@ -33,6 +35,12 @@ abbrev μ-sweep-if : Measures 3 sweep-if-kinds.ps ℕ
 
 abbrev μ-sweep-list : Measures 3 sweep-list-kinds.ps ℕ
 μ-sweep-list κs a = 2 * length (a .1 .0 .now) + 1
+
+abbrev Inv-loop : sweep-list-lts.InvT-loop
+Inv-loop words part q mask table₀ at₀ left₀ table at left = Sweeping words part q mask table₀ at table left
+
+abbrev μ-loop : sweep-list-lts.MeasureT-loop
+μ-loop words part q mask table₀ at₀ left₀ table at left = length part - at
 
 module _ (t : ℕ) where
   -- what `sweep-if` is given at the measure t, and what a call of it asks below t
@@ -76,74 +84,107 @@ module _ (t : ℕ) where
       swept-if _ _ _ _ _ _ (sym (s .pre .1 .1)) _ (p .before .word-at .ensures) _ (p .then-part .ensures) (x .sweep-list .ensures) _ (o .else-part .ensures) (c .before .before .sweep-list2 .ensures)
 
   abbrev sweep-list-uses : sweep-list-lts.Claims
-  sweep-list-uses = (statement-record-reads.Asked, statement-record-reads.Learnt, behind-statement-reads.Asked, behind-statement-reads.Learnt, sweep-list-below, sweep-list.Post, add-lanes-reads.Asked, add-lanes-reads.Learnt, sweep-if-below, sweep-if.Post)
+  sweep-list-uses = (statement-record-reads.Asked, statement-record-reads.Learnt, behind-statement-reads.Asked, behind-statement-reads.Learnt, add-lanes-reads.Asked, add-lanes-reads.Learnt, sweep-if-below, sweep-if.Post)
 
-  -- what `sweep-list` was called with, and the record that an arm knows
-  abbrev start : sweep-list-lts.After-statement-record sweep-list-uses sweep-list-at sweep-list.Post → sweep-list-lts.Start sweep-list-uses sweep-list-at sweep-list.Post
-  start r = r .before .before .before .before .before
+  -- the places of `sweep-list`: what it was called with, the turn of the loop, and the record that an arm knows
+  abbrev asked : sweep-list-lts.At-loop sweep-list-uses sweep-list-at sweep-list.Post Inv-loop μ-loop → sweep-list-lts.Start sweep-list-uses sweep-list-at sweep-list.Post Inv-loop μ-loop
+  asked l = l .before .before .before .before
 
-  abbrev do-of : sweep-list-lts.After-enum-told sweep-list-uses sweep-list-at sweep-list.Post → StatementRecord
+  abbrev turn : sweep-list-lts.After-statement-record sweep-list-uses sweep-list-at sweep-list.Post Inv-loop μ-loop → sweep-list-lts.At-loop sweep-list-uses sweep-list-at sweep-list.Post Inv-loop μ-loop
+  turn r = r .before .before .before
+
+  -- the bytes from the place of the turn on
+  abbrev rest-of : sweep-list-lts.At-loop sweep-list-uses sweep-list-at sweep-list.Post Inv-loop μ-loop → List ℕ
+  rest-of l = let part = asked l .args .part .now in take (length part - l .loop .at) (drop (l .loop .at) part)
+
+  abbrev do-of : sweep-list-lts.After-enum-told sweep-list-uses sweep-list-at sweep-list.Post Inv-loop μ-loop → StatementRecord
   do-of k = Do (k .enum-told .given .0 .0) (k .enum-told .given .0 .1 .0)
 
-  do-front : (k : sweep-list-lts.After-enum-told sweep-list-uses sweep-list-at sweep-list.Post) → do-of k ≡ statement-record (start (k .before .before) .args .part .now)
+  do-front : (k : sweep-list-lts.After-enum-told sweep-list-uses sweep-list-at sweep-list.Post Inv-loop μ-loop) → do-of k ≡ statement-record (rest-of (turn (k .before .before)))
   do-front k = sym (k .enum-told .given .1) ∙ k .before .before .statement-record .ensures
 
-  do-behind : (p : sweep-list-lts.After-behind-statement sweep-list-uses sweep-list-at sweep-list.Post) → p .behind-statement .result .now ≡ behind-statement (do-of (p .before)) (start (p .before .before .before) .args .part .now)
-  do-behind p = p .behind-statement .ensures ∙ ap (λ (r : StatementRecord). behind-statement r (start (p .before .before .before) .args .part .now)) (p .before .enum-told .given .1)
+  do-behind : (p : sweep-list-lts.After-behind-statement sweep-list-uses sweep-list-at sweep-list.Post Inv-loop μ-loop) → p .behind-statement .result .now ≡ behind-statement (do-of (p .before)) (rest-of (turn (p .before .before .before)))
+  do-behind p = p .behind-statement .ensures ∙ ap (λ (r : StatementRecord). behind-statement r (rest-of (turn (p .before .before .before)))) (p .before .enum-told .given .1)
 
-  abbrev if-of : sweep-list-lts.After-front2 sweep-list-uses sweep-list-at sweep-list.Post → StatementRecord
+  abbrev if-of : sweep-list-lts.After-front2 sweep-list-uses sweep-list-at sweep-list.Post Inv-loop μ-loop → StatementRecord
   if-of k = If (k .front2 .given .0 .0)
 
-  if-front : (k : sweep-list-lts.After-front2 sweep-list-uses sweep-list-at sweep-list.Post) → if-of k ≡ statement-record (start (k .before .before) .args .part .now)
+  if-front : (k : sweep-list-lts.After-front2 sweep-list-uses sweep-list-at sweep-list.Post Inv-loop μ-loop) → if-of k ≡ statement-record (rest-of (turn (k .before .before)))
   if-front k = sym (k .front2 .given .1) ∙ k .before .before .statement-record .ensures
 
-  sweep-list-returns : sweep-list-lts.Need-returns sweep-list-uses sweep-list-at sweep-list.Post
-  sweep-list-returns c = sweep-empty _ _ _ _ _ (c .if1 .taken)
+  sweep-list-loop-holds : sweep-list-lts.Need-loop-holds sweep-list-uses sweep-list-at sweep-list.Post Inv-loop μ-loop
+  sweep-list-loop-holds c = sweeping-start _ _ _ _ _
 
-  sweep-list-sweep-list-requires : sweep-list-lts.Need-sweep-list-requires sweep-list-uses sweep-list-at sweep-list.Post
-  sweep-list-sweep-list-requires c κs =
-      let p = c .before in
-      let k = p .before in
-      let s = start (k .before .before) in
-      let part = s .args .part .now in
-      (omega (arith, behind-falls (do-of k) part (p .behind-statement .result .now) (told part _ (do-front k) .0) (do-behind p)), s .pre .1)
+  sweep-list-sub-rest : sweep-list-lts.Need-sub-rest sweep-list-uses sweep-list-at sweep-list.Post Inv-loop μ-loop
+  sweep-list-sub-rest c = omega (arith, c .before .loop .inv .inside)
 
-  sweep-list-sweep-if-requires : sweep-list-lts.Need-sweep-if-requires sweep-list-uses sweep-list-at sweep-list.Post
-  sweep-list-sweep-if-requires c κs =
-      let k = c .before .before in
-      (search needs, (start (k .before .before) .pre .1, sym (if-front k)))
+  sweep-list-part-rest-start : sweep-list-lts.Need-part-rest-start sweep-list-uses sweep-list-at sweep-list.Post Inv-loop μ-loop
+  sweep-list-part-rest-start c = omega (arith, c .before .loop .inv .inside)
 
-  sweep-list-sweep-list-requires-2 : sweep-list-lts.Need-sweep-list-requires-2 sweep-list-uses sweep-list-at sweep-list.Post
-  sweep-list-sweep-list-requires-2 c κs =
-      let p = c .before in
-      let d = p .before .before .before in
-      let k = d .before .before .before in
-      let s = start (k .before .before) in
-      let part = s .args .part .now in
-      (omega (arith, behind-falls (if-of k) part (p .behind-statement2 .result .now) (told part _ (if-front k) .0) (p .behind-statement2 .ensures)), (s .pre .1 .0, d .sweep-if .ensures .kept .long ∙ s .pre .1 .1))
+  sweep-list-sub-at : sweep-list-lts.Need-sub-at sweep-list-uses sweep-list-at sweep-list.Post Inv-loop μ-loop
+  sweep-list-sub-at c = let k = c .before in behind-short _ _ _ _ _ _ _ _ (turn (k .before .before) .loop .inv) _ refl (do-of k) _ (do-behind c)
 
-  sweep-list-returns-2 : sweep-list-lts.Need-returns-2 sweep-list-uses sweep-list-at sweep-list.Post
-  sweep-list-returns-2 c =
-      let p = c .before .before .before .before in
-      sweep-sent _ _ _ _ _ _ _ (do-front (p .before)) _ (do-behind p) (c .before .before .sweep-list .ensures)
+  sweep-list-loop-less : sweep-list-lts.Need-loop-less sweep-list-uses sweep-list-at sweep-list.Post Inv-loop μ-loop
+  sweep-list-loop-less c =
+      let k = c .before in
+      let l = turn (k .before .before) in
+      rest-falls _ _ _ _ _ _ _ _ (l .loop .inv) _ refl (do-of k) _ (told (rest-of l) _ (do-front k) .0) (do-behind c)
 
-  sweep-list-returns-3 : sweep-list-lts.Need-returns-3 sweep-list-uses sweep-list-at sweep-list.Post
-  sweep-list-returns-3 c =
+  sweep-list-loop-again : sweep-list-lts.Need-loop-again sweep-list-uses sweep-list-at sweep-list.Post Inv-loop μ-loop
+  sweep-list-loop-again c = let k = c .before in sweeping-sent _ _ _ _ _ _ _ _ (turn (k .before .before) .loop .inv) _ refl _ _ (do-front k) _ (do-behind c)
+
+  sweep-list-add-lanes-requires : sweep-list-lts.Need-add-lanes-requires sweep-list-uses sweep-list-at sweep-list.Post Inv-loop μ-loop
+  sweep-list-add-lanes-requires c κs =
+      let l = turn (c .before .before .before .before .before) in
+      (asked l .pre .1 .0, l .loop .inv .long ∙ asked l .pre .1 .1)
+
+  sweep-list-same-length : sweep-list-lts.Need-same-length sweep-list-uses sweep-list-at sweep-list.Post Inv-loop μ-loop
+  sweep-list-same-length c =
+      let d = c .before .before in
+      d .add-lanes .ensures .kept .long ∙ turn (d .before .before .before .before .before .before) .loop .inv .long
+
+  sweep-list-returns : sweep-list-lts.Need-returns sweep-list-uses sweep-list-at sweep-list.Post Inv-loop μ-loop
+  sweep-list-returns c =
       let d = c .before .before in
       let k = d .before .before .before .before in
-      sweep-go _ _ _ _ _ _ _ _ (sym (k .front .given .1) ∙ k .before .before .statement-record .ensures) refl (d .add-lanes .ensures)
+      swept-go _ _ _ _ _ _ _ _ (turn (k .before .before) .loop .inv) _ refl _ _ _ (sym (k .front .given .1) ∙ k .before .before .statement-record .ensures) refl (d .add-lanes .ensures)
 
-  sweep-list-returns-4 : sweep-list-lts.Need-returns-4 sweep-list-uses sweep-list-at sweep-list.Post
-  sweep-list-returns-4 c =
-      let p = c .before .before .before .before in
-      let d = p .before .before .before in
-      sweep-on _ _ _ _ _ _ (if-front (d .before .before .before)) (d .sweep-if .ensures) _ (p .behind-statement2 .ensures) (c .before .before .sweep-list2 .ensures)
+  sweep-list-sweep-if-requires : sweep-list-lts.Need-sweep-if-requires sweep-list-uses sweep-list-at sweep-list.Post Inv-loop μ-loop
+  sweep-list-sweep-if-requires c κs =
+      let k = c .before .before in
+      let l = turn (k .before .before) in
+      (omega (arith, rest-short _ _ _ _ _ _ _ _ (l .loop .inv) _ refl), ((asked l .pre .1 .0, l .loop .inv .long ∙ asked l .pre .1 .1), sym (if-front k)))
 
-  sweep-list-returns-5 : sweep-list-lts.Need-returns-5 sweep-list-uses sweep-list-at sweep-list.Post
-  sweep-list-returns-5 c = sweep-nothing _ _ _ _ _ (sym (c .enum-told2 .given .1) ∙ c .before .before .statement-record .ensures)
+  sweep-list-sub-at-2 : sweep-list-lts.Need-sub-at-2 sweep-list-uses sweep-list-at sweep-list.Post Inv-loop μ-loop
+  sweep-list-sub-at-2 c = let k = c .before .before .before .before .before .before in behind-short _ _ _ _ _ _ _ _ (turn (k .before .before) .loop .inv) _ refl (if-of k) _ (c .behind-statement2 .ensures)
+
+  sweep-list-loop-less-2 : sweep-list-lts.Need-loop-less-2 sweep-list-uses sweep-list-at sweep-list.Post Inv-loop μ-loop
+  sweep-list-loop-less-2 c =
+      let k = c .before .before .before .before .before .before in
+      let l = turn (k .before .before) in
+      rest-falls _ _ _ _ _ _ _ _ (l .loop .inv) _ refl (if-of k) _ (told (rest-of l) _ (if-front k) .0) (c .behind-statement2 .ensures)
+
+  sweep-list-loop-again-2 : sweep-list-lts.Need-loop-again-2 sweep-list-uses sweep-list-at sweep-list.Post Inv-loop μ-loop
+  sweep-list-loop-again-2 c =
+      let d = c .before .before .before in
+      let k = d .before .before .before in
+      sweeping-on _ _ _ _ _ _ _ _ (turn (k .before .before) .loop .inv) _ refl _ (if-front k) (d .sweep-if .ensures) _ (c .behind-statement2 .ensures)
+
+  sweep-list-same-length-2 : sweep-list-lts.Need-same-length-2 sweep-list-uses sweep-list-at sweep-list.Post Inv-loop μ-loop
+  sweep-list-same-length-2 c = turn (c .before .before) .loop .inv .long
+
+  sweep-list-returns-2 : sweep-list-lts.Need-returns-2 sweep-list-uses sweep-list-at sweep-list.Post Inv-loop μ-loop
+  sweep-list-returns-2 c =
+      swept-nothing _ _ _ _ _ _ _ _ (turn (c .before .before) .loop .inv) _ refl (sym (c .enum-told2 .given .1) ∙ c .before .before .statement-record .ensures)
+
+  sweep-list-same-length-3 : sweep-list-lts.Need-same-length-3 sweep-list-uses sweep-list-at sweep-list.Post Inv-loop μ-loop
+  sweep-list-same-length-3 c = c .before .loop .inv .long
+
+  sweep-list-returns-3 : sweep-list-lts.Need-returns-3 sweep-list-uses sweep-list-at sweep-list.Post Inv-loop μ-loop
+  sweep-list-returns-3 c = sweeping-end _ _ _ _ _ _ _ _ (c .before .loop .inv) (c .loop-test .left)
 
 pub +sweep-if+sweep-list-spec : {M : Type 1} → statement M
 +sweep-if+sweep-list-spec =
     close μ-sweep-if μ-sweep-list
     (λ t. sweep-if-lts.spec (sweep-if-uses t) (sweep-if-at t) sweep-if.Post (λ c. search needs) (λ c κs. search needs) (λ c κs. search needs) (sweep-if-sweep-list-requires t) (λ c κs. search needs) (sweep-if-sweep-list-requires-2 t) (λ c. search needs) (sweep-if-returns t))
-    (λ t. sweep-list-lts.spec (sweep-list-uses t) (sweep-list-at t) sweep-list.Post (sweep-list-returns t) (λ c κs. search needs) (λ c. search needs) (λ c κs. search needs) (sweep-list-sweep-list-requires t) (λ c. search needs) (λ c. search needs) (λ c κs. search needs) (λ c. search needs) (sweep-list-sweep-if-requires t) (λ c κs. search needs) (sweep-list-sweep-list-requires-2 t) (λ c. search needs) (λ c. search needs) (sweep-list-returns-2 t) (λ c. search needs) (sweep-list-returns-3 t) (λ c. search needs) (sweep-list-returns-4 t) (sweep-list-returns-5 t))
+    (λ t. sweep-list-lts.spec (sweep-list-uses t) (sweep-list-at t) sweep-list.Post Inv-loop μ-loop (sweep-list-loop-holds t) (sweep-list-sub-rest t) (sweep-list-part-rest-start t) (λ c. search needs) (λ c κs. search needs) (λ c. search needs) (λ c κs. search needs) (sweep-list-sub-at t) (sweep-list-loop-less t) (sweep-list-loop-again t) (λ c. search needs) (λ c. search needs) (sweep-list-add-lanes-requires t) (sweep-list-same-length t) (sweep-list-returns t) (λ c. search needs) (sweep-list-sweep-if-requires t) (λ c κs. search needs) (sweep-list-sub-at-2 t) (sweep-list-loop-less-2 t) (sweep-list-loop-again-2 t) (λ c. search needs) (sweep-list-same-length-2 t) (sweep-list-returns-2 t) (sweep-list-same-length-3 t) (sweep-list-returns-3 t))
