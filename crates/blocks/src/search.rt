@@ -79,18 +79,12 @@ fn larger(x: usize, y: usize) -> usize
     x
 }
 
-// The blocks of all configurations of so many names, rising.
-fn try_blocks(
-    plan: Plan,
-    clauses: Clauses,
-    statements: &[u8],
-    there: Present,
-    names: usize,
-) -> Outcome
-    requires { ⌜ Ready plan clauses (now statements) there × (names ≤ 20) ⌝ }
-    ensures { λ r. ⌜ Finds plan clauses (now (statements .entry)) there names r ⌝ }
+// The blocks of all configurations of n names, rising.
+fn try_blocks(plan: Plan, clauses: Clauses, statements: &[u8], there: Present, n: usize) -> Outcome
+    requires { ⌜ Ready plan clauses (now statements) there × (n ≤ 20) ⌝ }
+    ensures { λ r. ⌜ Finds plan clauses (now (statements .entry)) there n r ⌝ }
 {
-    let all: u32 = 1 << names;
+    let all: u32 = 1 << n;
     let mut words = [0u64; 1024];
     let mut longest = 0;
     let mut next: u32 = 0;
