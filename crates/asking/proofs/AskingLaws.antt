@@ -26,10 +26,11 @@ use Rattle.texts.specs.Fields.{occurs, number-of, string-right, string-bytes, D
 use Rattle.texts.specs.declared.reading.Number.{Number}
 use Rattle.texts.specs.declared.reading.Number.the-variants.{Is, Bad}
 use Rattle.texts.specs.declared.reading.Decoded.{Decoded}
-use Rattle.lines.specs.Lines.{bad-line, judge-text, probe-text, phase-text, command-line, loop-line, read-line}
-use Rattle.asking.specs.Asking.{judge-verb, loop-verb, probe-verb, phase-verb, command-verb, read-verb, same-bytes, is-form, verb-of, first, others, with-string, on-number, with-number, line-of, line-of-text, placed-answer, sheet-answer, fields-answer, answer-line}
+use Rattle.lines.specs.Lines.{bad-line, judge-text, probe-text, phase-line, command-line, loop-line, read-line}
+use Rattle.asking.specs.Asking.{judge-verb, loop-verb, probe-verb, phase-verb, command-verb, read-verb, same-bytes, is-form, verb-of, first, others, with-string, on-number, with-number, line-of, line-of-text, sending-from, placed-answer, sheet-answer, fields-answer, answer-line}
 use Rattle.asking.specs.declared.Asked.{Asked}
 use Rattle.asking.specs.declared.Asked.the-variants as A
+use Rattle.asking.specs.declared.Sending.{Sending}
 use Rattle.asking.specs.declared.Verb.{Verb}
 use Rattle.asking.specs.declared.Verb.the-variants as W
 
@@ -70,22 +71,22 @@ module _ (v : List ℕ) (n : ℕ) where
   unfolding verb-of
   verb-probe a b c = rw (a, b, c)
 
-  pub verb-phase : is-form v judge-verb n 1 ≡ false → is-form v loop-verb n 3 ≡ false → is-form v probe-verb n 3 ≡ false → is-form v phase-verb n 3 ≡ true
+  pub verb-phase : is-form v judge-verb n 1 ≡ false → is-form v loop-verb n 3 ≡ false → is-form v probe-verb n 3 ≡ false → is-form v phase-verb n 4 ≡ true
       → W.Placed A.Phase ≡ verb-of v n
   unfolding verb-of
   verb-phase a b c d = rw (a, b, c, d)
 
-  pub verb-command : is-form v judge-verb n 1 ≡ false → is-form v loop-verb n 3 ≡ false → is-form v probe-verb n 3 ≡ false → is-form v phase-verb n 3 ≡ false
+  pub verb-command : is-form v judge-verb n 1 ≡ false → is-form v loop-verb n 3 ≡ false → is-form v probe-verb n 3 ≡ false → is-form v phase-verb n 4 ≡ false
       → is-form v command-verb n 5 ≡ true → W.Placed A.Command ≡ verb-of v n
   unfolding verb-of
   verb-command a b c d e = rw (a, b, c, d, e)
 
-  pub verb-read : is-form v judge-verb n 1 ≡ false → is-form v loop-verb n 3 ≡ false → is-form v probe-verb n 3 ≡ false → is-form v phase-verb n 3 ≡ false
+  pub verb-read : is-form v judge-verb n 1 ≡ false → is-form v loop-verb n 3 ≡ false → is-form v probe-verb n 3 ≡ false → is-form v phase-verb n 4 ≡ false
       → is-form v command-verb n 5 ≡ false → is-form v read-verb n 6 ≡ true → W.Read ≡ verb-of v n
   unfolding verb-of
   verb-read a b c d e f = rw (a, b, c, d, e, f)
 
-  pub verb-other : is-form v judge-verb n 1 ≡ false → is-form v loop-verb n 3 ≡ false → is-form v probe-verb n 3 ≡ false → is-form v phase-verb n 3 ≡ false
+  pub verb-other : is-form v judge-verb n 1 ≡ false → is-form v loop-verb n 3 ≡ false → is-form v probe-verb n 3 ≡ false → is-form v phase-verb n 4 ≡ false
       → is-form v command-verb n 5 ≡ false → is-form v read-verb n 6 ≡ false → W.Other ≡ verb-of v n
   unfolding verb-of
   verb-other a b c d e f = rw (a, b, c, d, e, f)
@@ -138,6 +139,11 @@ module _ (l m : List ℕ) (end : ℕ) (f field : List ℕ) (r : Number) (rest : 
 -- ---- questions
 
 module _ (l m : List ℕ) (end : ℕ) (ns : List ℕ) where
+  pub phase-put : (b c : List ℕ) (q : ℕ) (out after : List ℕ) → Answered values (reply (phase-from b c q out)) out ns after → Appended l m 0 (phase-line ns after) end
+      → Appended l m 0 (line-of (phase-from b c q out)) end
+  unfolding line-of
+  phase-put b c q out after h a = rw (h .numbers-are, h .buffer-is) at a
+
   pub command-put : (b c : List ℕ) (q x : ℕ) (out after : List ℕ) → Answered values (reply (command-in b c q x out)) out ns after → Appended l m 0 (command-line ns after) end
       → Appended l m 0 (line-of (command-in b c q x out)) end
   unfolding line-of
@@ -152,11 +158,6 @@ module _ (l m : List ℕ) (end : ℕ) (ns : List ℕ) where
       → Appended l m 0 (placed-answer k b c q f) end
   unfolding line-of placed-answer
   probe-put k b c q f h e a = rw h (rw e at a)
-
-  pub phase-put : (k : Asked) (b c : List ℕ) (q : ℕ) (f : List ℕ) → k ≡ A.Phase → ns ≡ numbers-for (phase-from b c q) → Appended l m 0 (phase-text ns) end
-      → Appended l m 0 (placed-answer k b c q f) end
-  unfolding line-of placed-answer
-  phase-put k b c q f h e a = rw h (rw e at a)
 
   pub judge-put : (v : Verb) (b f : List ℕ) → v ≡ W.Judge → ns ≡ numbers-for (judge b) → Appended l m 0 (judge-text ns) end
       → Appended l m 0 (sheet-answer v b f) end
@@ -181,6 +182,9 @@ text-put l m end q r sheet table h a =
 
 -- the same kind of question, and the same verb, are answered the same
 module _ (l m : List ℕ) (end : ℕ) where
+  pub same-sending : (s t : Sending) (b c : List ℕ) (q : ℕ) (out : List ℕ) → s ≡ t → Appended l m 0 (line-of (sending-from t b c q out)) end → Appended l m 0 (line-of (sending-from s b c q out)) end
+  same-sending s t b c q out h a = rw h a
+
   pub same-placed : (j k : Asked) (b c : List ℕ) (q : ℕ) (f : List ℕ) → j ≡ k → Appended l m 0 (placed-answer k b c q f) end → Appended l m 0 (placed-answer j b c q f) end
   same-placed j k b c q f h a = rw h a
 

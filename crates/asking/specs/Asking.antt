@@ -1,4 +1,4 @@
--- The line that answers a question line: `judge SHEET`, `probe SHEET LIST STATE`, `phase SHEET LIST STATE`,
+-- The line that answers a question line: `judge SHEET`, `probe SHEET LIST STATE`, `phase SHEET LIST STATE BUFFER`,
 -- `command SHEET LIST STATE COMMAND BUFFER`, `loop SHEET PRESENT BUFFER`, `read TEXT NAMES COMMANDS CLASSES SHEET TABLE`, the fields parted by
 -- one space; of any other line `bad line`.
 -- Assumes nothing.
@@ -17,9 +17,11 @@ use Rattle.readings.specs.Promise.{asked}
 use Rattle.texts.specs.Fields.{occurs, before, behind, number-of, string-right, string-bytes}
 use Rattle.texts.specs.declared.reading.Number.{Number}
 use Rattle.texts.specs.declared.reading.Number.the-variants.{Is, Bad}
-use Rattle.lines.specs.Lines.{bad-line, judge-text, probe-text, phase-text, command-line, loop-line, read-line}
+use Rattle.lines.specs.Lines.{bad-line, judge-text, probe-text, phase-line, command-line, loop-line, read-line}
 use Rattle.asking.specs.declared.Asked.{Asked}
 use Rattle.asking.specs.declared.Asked.the-variants as A
+use Rattle.asking.specs.declared.Sending.{Sending}
+use Rattle.asking.specs.declared.Sending.the-variants as S
 use Rattle.asking.specs.declared.Verb.{Verb}
 use Rattle.asking.specs.declared.Verb.the-variants as W
 
@@ -58,7 +60,7 @@ verb-of verb n =
     choose (is-form verb judge-verb n 1) (λ _. W.Judge) λ _.
     choose (is-form verb loop-verb n 3) (λ _. W.Loop) λ _.
     choose (is-form verb probe-verb n 3) (λ _. W.Placed A.Probe) λ _.
-    choose (is-form verb phase-verb n 3) (λ _. W.Placed A.Phase) λ _.
+    choose (is-form verb phase-verb n 4) (λ _. W.Placed A.Phase) λ _.
     choose (is-form verb command-verb n 5) (λ _. W.Placed A.Command) λ _.
     choose (is-form verb read-verb n 6) (λ _. W.Read) λ _. W.Other
 
@@ -86,7 +88,7 @@ with-number f rest = on-number (number-of (first f)) (λ n. rest n (others f))
 unfoldable pub line-of : Question → List ℕ
 line-of (judge b) = judge-text (numbers-for (judge b))
 line-of (probe-in b l q) = probe-text (numbers-for (probe-in b l q))
-line-of (phase-from b l q) = phase-text (numbers-for (phase-from b l q))
+line-of (phase-from b l q out) = phase-line (numbers-for (phase-from b l q out)) (buffer-after (reply (phase-from b l q out)) out)
 line-of (command-in b l q m out) = command-line (numbers-for (command-in b l q m out)) (buffer-after (reply (command-in b l q m out)) out)
 line-of (loop-with b present out) = loop-line (numbers-for (loop-with b present out)) (buffer-after (reply (loop-with b present out)) out)
 
@@ -94,14 +96,22 @@ line-of (loop-with b present out) = loop-line (numbers-for (loop-with b present 
 unfoldable pub line-of-text : Lent → List ℕ
 line-of-text q = read-line (numbers-in (computed q .reading)) (computed q .sheet) (computed q .table)
 
+-- BUFFER, lent for what a phase or a command sends
+abbrev pub sending-from : Sending → List ℕ → List ℕ → ℕ → List ℕ → Question
+sending-from S.Phase b l q out = phase-from b l q out
+sending-from (S.Command m) b l q out = command-in b l q m out
+
+unfoldable pub sending-answer : Sending → List ℕ → List ℕ → ℕ → List ℕ → List ℕ
+sending-answer s b l q f = with-string f λ out _. line-of (sending-from s b l q out)
+
 -- COMMAND BUFFER
 unfoldable pub command-answer : List ℕ → List ℕ → ℕ → List ℕ → List ℕ
-command-answer b l q f = with-number f λ m g. with-string g λ out _. line-of (command-in b l q m out)
+command-answer b l q f = with-number f λ m g. sending-answer (S.Command m) b l q g
 
 -- what is behind LIST STATE
 unfoldable pub placed-answer : Asked → List ℕ → List ℕ → ℕ → List ℕ → List ℕ
 placed-answer A.Probe b l q f = line-of (probe-in b l q)
-placed-answer A.Phase b l q f = line-of (phase-from b l q)
+placed-answer A.Phase b l q f = sending-answer S.Phase b l q f
 placed-answer A.Command b l q f = command-answer b l q f
 
 -- what is behind LIST

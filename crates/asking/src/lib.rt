@@ -16,16 +16,22 @@ use texts::reading::other_fields;
 use texts::reading::read_number;
 ghost use mathlib.Core.Path.{_≡_};
 ghost use lib.ListN.{length};
-ghost use Rattle.bargewicker.specs.Questions.{judge, command-in, loop-with};
+ghost use Rattle.bargewicker.specs.Questions.{judge, phase-from, command-in, loop-with};
 ghost use Rattle.readings.specs.Promise.{asked};
 ghost use Rattle.texts.specs.Texts.{Appended};
-ghost use Rattle.asking.specs.Asking.{is-form, verb-of, line-of, command-answer, placed-answer, state-answer, list-answer, loop-answer, line-of-text, table-answer, buffer-answer, classes-answer, commands-answer, text-answer, sheet-answer, fields-answer, answer-line};
+ghost use Rattle.asking.specs.Asking.{is-form, verb-of, line-of, sending-from, sending-answer, command-answer, placed-answer, state-answer, list-answer, loop-answer, line-of-text, table-answer, buffer-answer, classes-answer, commands-answer, text-answer, sheet-answer, fields-answer, answer-line};
 
 // The questions of a child list and a state.
 pub enum Asked {
     Probe,
     Phase,
     Command,
+}
+
+// Those of them that are lent a buffer, for what is sent.
+pub enum Sending {
+    Phase,
+    Command(u8),
 }
 
 // The questions.
@@ -57,7 +63,7 @@ fn verb_of(verb: &[u8], spaces: usize) -> Verb
     if is_form(verb, b"probe", spaces, 3) {
         return Verb::Placed(Asked::Probe);
     }
-    if is_form(verb, b"phase", spaces, 3) {
+    if is_form(verb, b"phase", spaces, 4) {
         return Verb::Placed(Asked::Phase);
     }
     if is_form(verb, b"command", spaces, 5) {
@@ -76,6 +82,14 @@ fn blank() -> [u8; 524288]
     [0u8; 524288]
 }
 
+// The when phase is put, and its line written.
+fn put_phase(sheet: &[u8], list: &[u8], state: u8, lent: &mut [u8], out: &mut [u8]) -> usize
+    ensures { λ r. ⌜ Appended (now (out .entry)) (now (out .exit)) 0 (line-of (phase-from (now (sheet .entry)) (now (list .entry)) state (now (lent .entry)))) r ⌝ }
+{
+    let answer = bargewicker::when_phase(sheet, list, state, lent);
+    phase_line(answer, lent, out)
+}
+
 // The command is put, and its line written.
 fn put_command(
     sheet: &[u8],
@@ -91,6 +105,43 @@ fn put_command(
     command_line(answer, lent, out)
 }
 
+// Either is put.
+fn put_sending(
+    sending: Sending,
+    sheet: &[u8],
+    list: &[u8],
+    state: u8,
+    lent: &mut [u8],
+    out: &mut [u8],
+) -> usize
+    ensures { λ r. ⌜ Appended (now (out .entry)) (now (out .exit)) 0 (line-of (sending-from sending (now (sheet .entry)) (now (list .entry)) state (now (lent .entry)))) r ⌝ }
+{
+    match sending {
+        Sending::Phase => put_phase(sheet, list, state, lent, out),
+        Sending::Command(command) => put_command(sheet, list, state, command, lent, out),
+    }
+}
+
+// BUFFER
+fn ask_sending(
+    sending: Sending,
+    sheet: &[u8],
+    list: &[u8],
+    state: u8,
+    fields: &[u8],
+    out: &mut [u8],
+) -> usize
+    ensures { λ r. ⌜ Appended (now (out .entry)) (now (out .exit)) 0 (sending-answer sending (now (sheet .entry)) (now (list .entry)) state (now (fields .entry))) r ⌝ }
+{
+    let mut lent = blank();
+    let b = decode(first_field(fields), &mut lent);
+    let n = b.length;
+    if !b.right {
+        return bad_line(out);
+    }
+    put_sending(sending, sheet, list, state, &mut lent[..n], out)
+}
+
 // COMMAND BUFFER
 fn ask_command(sheet: &[u8], list: &[u8], state: u8, fields: &[u8], out: &mut [u8]) -> usize
     ensures { λ r. ⌜ Appended (now (out .entry)) (now (out .exit)) 0 (command-answer (now (sheet .entry)) (now (list .entry)) state (now (fields .entry))) r ⌝ }
@@ -99,13 +150,14 @@ fn ask_command(sheet: &[u8], list: &[u8], state: u8, fields: &[u8], out: &mut [u
     let Number::Is(command) = asked else {
         return bad_line(out);
     };
-    let mut lent = blank();
-    let b = decode(first_field(other_fields(fields)), &mut lent);
-    let n = b.length;
-    if !b.right {
-        return bad_line(out);
-    }
-    put_command(sheet, list, state, command, &mut lent[..n], out)
+    ask_sending(
+        Sending::Command(command),
+        sheet,
+        list,
+        state,
+        other_fields(fields),
+        out,
+    )
 }
 
 // What is behind LIST STATE.
@@ -121,7 +173,7 @@ fn ask_placed(
 {
     match asked {
         Asked::Probe => probe_line(bargewicker::probe(sheet, list, state), out),
-        Asked::Phase => phase_line(bargewicker::when_phase(sheet, list, state), out),
+        Asked::Phase => ask_sending(Sending::Phase, sheet, list, state, fields, out),
         Asked::Command => ask_command(sheet, list, state, fields, out),
     }
 }
