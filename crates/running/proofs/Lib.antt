@@ -1,3 +1,4 @@
 pub mod SendLaws
 pub mod RunLaws
 pub mod ActionLaws
+pub mod Unique
