@@ -1,18 +1,17 @@
 -- How many bytes a when phase writes, for a sheet of bytes that is accepted, and that so much room is enough.
 -- Assumes nothing.
-use Prim.Native.Nat.{ℕ, _*_, _<_, _≤_}
+use Prim.Native.Nat.{ℕ, _<_, _≤_}
 use native.Mathlib.Omega.{arith}
 use native.Mathlib.Nat.{mul-le-mul-right}
 use mathlib.Core.Path.{_≡_, refl}
 use mathlib.Core.List.{List}
-use lib.Dec.{leb}
 use lib.ListN.{length}
 use borrow.Author.Tests.{le-leb}
 use Rattle.model.specs.Tree.{Child, Class}
 use Rattle.model.specs.Node.{own-states, Phase, settled, loops, phase}
 use Rattle.model.specs.Words.{Bytes}
 use Rattle.model.specs.Replies.{Reply, refuse, give}
-use Rattle.model.proofs.PhaseSize.{class-size, phase-sends}
+use Rattle.model.proofs.PhaseSize.{phase-sends}
 use Rattle.sheet.specs.Rules.{Accepted}
 use Rattle.sheet.specs.Reading.{class-of}
 use Rattle.sheet.proofs.Rules.{accepted-right}
@@ -21,7 +20,7 @@ use Rattle.sheet.proofs.Sound.{sound}
 use Rattle.children.specs.ChildList.{children-of, sent-bytes}
 use Rattle.children.proofs.ChildListLaws.{three-each, children-most}
 use Rattle.phases.specs.Phasing.{bytes-of-phase, reply-phase}
-use Rattle.bargewicker.specs.Questions.{Answer, phased, phase-from, reply}
+use Rattle.bargewicker.specs.Questions.{Answer, reply}
 use Rattle.bw.specs.Packed.{PhaseRoomEnough}
 use Rattle.bw.proofs.Checks.{placed-by}
 

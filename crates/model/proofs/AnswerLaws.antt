@@ -3,7 +3,6 @@
 use Prim.Native.Nat.{ℕ}
 use native.Mathlib.Omega.{arith}
 use mathlib.Core.Path.{_≡_, refl, sym, ap, ap₂}
-use mathlib.Core.List.{[], _∷_}
 use Rattle.model.specs.Tree as Tree
 use Rattle.model.specs.Node as Node
 use Rattle.model.specs.Values.{referrer-values, probed-values, settled-values, loop-values}

@@ -5,7 +5,7 @@ use mathlib.Core.List.{List, [], _∷_, _++_}
 use mathlib.Core.Option.{Option, none, some}
 use lib.ListN.{length, getD}
 use Rattle.model.specs.Words.{choose, maybe}
-use Rattle.model.specs.Tree.{Child, Referrer, move-to, run, stay, When, Part, Action, State, Class, no-state, no-action}
+use Rattle.model.specs.Tree.{Child, Referrer, move-to, run, stay, When, Action, State, Class, no-state, no-action}
 use Rattle.model.specs.Guards.{holds}
 use Rattle.model.specs.Running.{Sent, Ran, run-part}
 

@@ -3,7 +3,7 @@
 use mathlib.Core.Path.{_≡_, refl}
 use mathlib.Core.List.{[], _∷_}
 use Rattle.model.specs.Running.{Sent}
-use Rattle.model.specs.Node.{by-none, by-do, settled, loops}
+use Rattle.model.specs.Node.{by-do, settled, loops}
 use Rattle.model.specs.Replies.{refuse, give}
 use Rattle.children.specs.ChildList.{sent-bytes}
 use Rattle.phases.specs.Phasing.{bytes-of-phase, reply-phase, phasing-values}

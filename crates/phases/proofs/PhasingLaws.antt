@@ -7,7 +7,7 @@ use mathlib.Core.List.{List, [], _∷_, _++_}
 use lib.ListN.{length, getD, take, drop, length-take}
 use Rattle.model.specs.Running.{Sent}
 use Rattle.model.specs.Node as Tree
-use Rattle.model.specs.Values.{settled-values, loop-values}
+use Rattle.model.specs.Values.{settled-values}
 use Rattle.model.specs.Answers.{ending-as, phased-values, phase-numbers}
 use Rattle.model.specs.Replies.{refuse, give, written, Answered}
 use Rattle.model.specs.declared.OwnState.{OwnState}

@@ -8,7 +8,7 @@ use mathlib.Core.Option.{none, some}
 use lib.ListN.{length, getD}
 use Rattle.model.specs.Tree.{Child, everyone, any-in, atom, move-to, run, stay, When, Part, Action, no-action}
 use Rattle.model.specs.Running as Tree
-use Rattle.model.specs.Running.{Sent, run-part}
+use Rattle.model.specs.Running.{run-part}
 use Rattle.model.specs.Node.{state-of, action-of, Probed, nothing, found, probe, by-none, by-stay, by-do, Turn, stops, moves, turn-by, turn-for, turn, sent-in, sends}
 use Rattle.model.specs.Sound.{ReferrerRight}
 use Rattle.model.specs.declared.OwnState.{OwnState}
@@ -18,7 +18,6 @@ use Rattle.model.specs.declared.Probed as Code
 use Rattle.model.specs.declared.Referrer.{Referrer}
 use Rattle.model.specs.declared.Referrer.the-variants.{MoveTo, Do, Stay}
 use Rattle.model.proofs.NodeLaws.{getD-mem, probe-found, sent-by, sends-is}
-use Rattle.records.specs.Bytes.{in-fours}
 use Rattle.bodies.specs.Clauses.{action-count, first-action, action-command}
 use Rattle.sheet.specs.Contents.{body, bodies}
 use Rattle.sheet.specs.Reading.{action-in, class-in, class-of}
@@ -31,7 +30,7 @@ use Rattle.children.specs.ChildList.{children-of, sent-bytes}
 use Rattle.children.specs.NameSets.{Crewed}
 use Rattle.children.proofs.ChildListLaws.{half, bytes-most}
 use Rattle.node.specs.Probing.{Probes}
-use Rattle.running.specs.Running.{moved-as, Writes, RunsAction}
+use Rattle.running.specs.Running.{moved-as, Writes}
 use Rattle.running.specs.declared.Moved.the-variants.{Not, To}
 use Rattle.running.specs.declared.Ran.{Ran}
 use Rattle.running.proofs.ActionLaws.{state-inside, action-read}

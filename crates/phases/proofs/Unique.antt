@@ -1,6 +1,5 @@
 -- The promises of this floor leave one answer and one content of the buffer.
 -- Assumes nothing.
-use Prim.Native.Nat.{ℕ}
 use mathlib.Core.Path.{_≡_, sym, _∙_, ap}
 use mathlib.Core.List.{List}
 use Rattle.model.specs.Running.{Sent}
@@ -8,7 +7,7 @@ use Rattle.model.proofs.Words.{clash}
 use Rattle.model.proofs.AnswerLaws.{same-state, same-ending, same-phase-answer}
 use Rattle.model.proofs.ReplyLaws.{answered-once}
 use Rattle.phases.specs.Phasing.{phasing-values}
-use Rattle.phases.specs.Phases.{turn-as, TurnIs}
+use Rattle.phases.specs.Phases.{turn-as}
 use Rattle.phases.specs.Unique.{Unique}
 use Rattle.phases.specs.declared.Turn.{Turn}
 use Rattle.phases.specs.declared.Turn.the-variants.{Stops, Moves}

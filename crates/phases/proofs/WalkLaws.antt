@@ -14,7 +14,7 @@ use Rattle.model.specs.Tree.{Child}
 use Rattle.model.specs.Moves.{Next, after, Ends}
 use Rattle.model.specs.Running.{Sent}
 use Rattle.model.specs.Node as Tree
-use Rattle.model.specs.Answers.{ending-as, phased-values}
+use Rattle.model.specs.Answers.{ending-as}
 use Rattle.model.specs.declared.OwnState.{OwnState}
 use Rattle.model.specs.declared.Ending.{Ending}
 use Rattle.model.specs.declared.Phase.the-variants.{Settled, Loops as Looping}
@@ -33,7 +33,7 @@ use Rattle.children.specs.ChildList.{children-of, sent-bytes}
 use Rattle.running.specs.Running.{Writes}
 use Rattle.running.proofs.SendLaws.{sets-append, bytes-append, bytes-sum}
 use Rattle.phases.specs.Phasing.{phasing-values}
-use Rattle.phases.specs.Phases.{turn-as, Turns, Walks}
+use Rattle.phases.specs.Phases.{Turns, Walks}
 use Rattle.phases.specs.declared.Turn.the-variants.{Stops, Moves}
 use Rattle.phases.specs.declared.Turned.{Turned}
 use Rattle.phases.proofs.TurnLaws.{sends-most}

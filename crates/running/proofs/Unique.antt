@@ -3,7 +3,7 @@
 use mathlib.Core.Path.{_≡_, refl, sym, _∙_, ap}
 use Rattle.model.proofs.Words.{clash}
 use Rattle.model.proofs.AnswerLaws.{same-state}
-use Rattle.running.specs.Running.{moved-as, Does}
+use Rattle.running.specs.Running.{moved-as}
 use Rattle.running.specs.Unique.{Unique}
 use Rattle.running.specs.declared.Moved.{Moved}
 use Rattle.running.specs.declared.Moved.the-variants.{Not, To}

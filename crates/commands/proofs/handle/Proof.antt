@@ -1,6 +1,5 @@
 -- Only the clause for the command is run, first on no buffer, to count, and then on as much of it as it sends.
 -- Assumes nothing.
-use Prim.Native.Nat.{_+_}
 use native.Mathlib.Omega.{arith}
 use mathlib.Core.Path.{refl}
 use Rattle.sheet.proofs.Rules.{accepted-right}
