@@ -1,15 +1,17 @@
 -- Laws about the counts, targets and commands of a sheet, in the terms that the checks have.
 -- Assumes nothing.
-use Prim.Native.Nat.{ℕ, zero, suc, _+_}
+use Prim.Native.Nat.{ℕ, zero, suc, _+_, _*_, _≤_}
 use native.Mathlib.Numerals.{add-one}
 use native.Mathlib.Omega.{arith}
 use mathlib.Core.Path.{_≡_, refl, sym, _∙_}
 use mathlib.Core.Bool.{true, false, _&&_, not}
 use mathlib.Core.List.{List}
 use lib.Dec.{eqb, ltb}
+use lib.ListN.{length, List·getD-eq-default}
 use borrow.Author.Tests.{eq-eqb, ne-eqb}
 use Rattle.model.specs.Words.{total}
 use Rattle.model.specs.Tree.{move-to, run, stay}
+use Rattle.records.specs.Bytes.{in-fours}
 use Rattle.bodies.specs.Clauses.{count-at, count-sum, referrer-number, target, referrer-of}
 use Rattle.bodies.specs.BodyRules.{target-right}
 
@@ -21,6 +23,13 @@ sum-none b offset = refl
 pub sum-next : (b : List ℕ) (offset i s k : ℕ) → s ≡ count-sum b offset i → k ≡ count-at b offset i → s + k ≡ count-sum b offset (i + 1)
 unfolding count-sum total
 sum-next b offset i s k e h = rw (add-one, e, h)
+
+-- a record past the last counts nothing
+pub past-count : (s : List ℕ) (offset q : ℕ) → length s ≡ in-fours s * 4 → in-fours s ≤ q → count-at s offset q ≡ 0
+past-count s offset q e l =
+    let x : length s ≤ q * 4 + offset = omega arith in
+    let y : length s ≤ q * 4 + offset + 1 = omega arith in
+    rw (List·getD-eq-default s 0 x, List·getD-eq-default s 0 y)
 
 -- a test for inequality
 pub differ-not : (x y : ℕ) → x ≡ y → not (eqb x y) ≡ false

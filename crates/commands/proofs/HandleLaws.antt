@@ -32,7 +32,8 @@ use Rattle.running.specs.Running.{moved-as, RunsAction}
 use Rattle.running.specs.declared.Moved.{Moved}
 use Rattle.running.specs.declared.Ran.{Ran}
 use Rattle.running.proofs.SendLaws.{sets-all}
-use Rattle.running.proofs.ActionLaws.{past-count, state-inside}
+use Rattle.bodies.proofs.CheckLaws.{past-count}
+use Rattle.running.proofs.ActionLaws.{state-inside}
 use Rattle.commands.specs.Commands.{first-action-for}
 use Rattle.commands.proofs.HandlingLaws.{HandledSo, handled-so, short-so}
 use Rattle.commands.proofs.ClauseLaws.{clause-none, clause-found}

@@ -1,17 +1,18 @@
 -- Laws about the table of moves: it is filled by the phase's turns, one for each state.
 -- Assumes nothing.
-use Prim.Native.Nat.{ℕ, zero, suc, _+_, _<_, _≤_}
+use Prim.Native.Nat.{ℕ, _+_, _<_, _≤_}
 use native.Mathlib.Omega.{arith}
 use mathlib.Core.Path.{_≡_, refl, sym, ap, _∙_}
 use mathlib.Core.List.{List}
 use mathlib.Core.Logic.{_⊎_, inl, inr}
 use mathlib.Core.Option.{none, some}
-use lib.ListN.{length, getD, set, replicate, length-set}
+use lib.ListN.{length, set, replicate, length-set}
 use lib.Seq.{getD-set-same, getD-set-other}
 use Rattle.model.specs.Tree.{Child, When, State}
 use Rattle.model.specs.Node.{own-states, first-true, probe, turn-for, turn, moved, next}
 use Rattle.model.specs.declared.OwnState.{OwnState}
 use Rattle.model.proofs.Words.{lt-or-le}
+use Rattle.model.proofs.Lists.{getD-alike}
 use Rattle.model.proofs.NodeLaws.{stops-next, moves-next, next-within}
 use Rattle.model.specs.Words.{Bytes}
 use Rattle.sheet.specs.Contents.{body, bodies}
@@ -55,11 +56,6 @@ pub record Tabulating (b list to : List ℕ) (q : ℕ) : Type 0 where
   pub filled : (j : ℕ) → j < q → table-next to j ≡ next (class-of b) (children-of list) j
   pub rest : (j : ℕ) → q ≤ j → table-next to j ≡ none
 
-no-moves : (n j : ℕ) → getD {A = ℕ} (replicate n 255) j 255 ≡ 255
-no-moves zero j = refl
-no-moves (suc n) zero = refl
-no-moves (suc n) (suc j) = no-moves n j
-
 -- a store in the table
 stored : (to : List ℕ) (i r : ℕ) → i < length to → table-next (set to i r) i ≡ leads r
 unfolding table-next
@@ -72,7 +68,7 @@ kept-there to i r j h = ap leads (getD-set-other to i j r 255 h)
 module _ (b list : List ℕ) where
   pub tabulating-start : Tabulating b list (replicate 32 255) 0
   unfolding table-next
-  tabulating-start = record { table = refl; filled = λ j l. absurd (omega arith); rest = λ j l. ap leads (no-moves 32 j) }
+  tabulating-start = record { table = refl; filled = λ j l. absurd (omega arith); rest = λ j l. ap leads (getD-alike 32 j 255) }
 
   pub tabulating-more : (to : List ℕ) (q r : ℕ) → Tabulating b list to q → q < 32 → MovesTo b list q r → Tabulating b list (set to q r) (q + 1)
   tabulating-more to q r t l m =

@@ -124,8 +124,11 @@ unfolding listed
 listed-same i zero f g h = refl
 listed-same i (suc n) f g h = rw (h i (omega arith), listed-same (suc i) n f g (λ j l. h j (omega arith)))
 
--- a table of zeros, and what stands past its end
+-- a table of one number, which stands past its end too
+pub getD-alike : (n j x : ℕ) → getD (replicate n x) j x ≡ x
+getD-alike zero j x = refl
+getD-alike (suc n) zero x = refl
+getD-alike (suc n) (suc j) x = getD-alike n j x
+
 pub getD-zeros : (n j : ℕ) → getD {A = ℕ} (replicate n 0) j 0 ≡ 0
-getD-zeros zero j = refl
-getD-zeros (suc n) zero = refl
-getD-zeros (suc n) (suc j) = getD-zeros n j
+getD-zeros n j = getD-alike n j 0

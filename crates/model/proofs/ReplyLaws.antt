@@ -2,10 +2,10 @@
 -- Assumes nothing.
 use Prim.Native.Nat.{ℕ, _<_, _≤_}
 use mathlib.Core.Path.{_≡_, refl, sym, ap, _∙_}
-use mathlib.Core.List.{List, _∷_}
+use mathlib.Core.List.{List, [], _∷_}
 use lib.ListN.{length}
 use borrow.Author.Tests.{le-leb, lt-leb}
-use Rattle.model.specs.Replies.{Reply, refuse, give, in-room, told-as, numbers, buffer-after, Answered}
+use Rattle.model.specs.Replies.{Reply, refuse, give, in-room, written, told-as, numbers, buffer-after, Answered}
 
 -- a reply that is known is answered by what its numbers are, and leaves its buffer
 pub answered-by : {A : Type 0} (values : A → List ℕ) (reply r : Reply A) → reply ≡ r → (out ns after : List ℕ) → ns ≡ numbers values r → after ≡ buffer-after r out
@@ -17,12 +17,14 @@ pub answered : {A : Type 0} (values : A → List ℕ) (reply r : Reply A) → re
     → Answered values reply out (numbers values r) after
 answered values reply r e out after f = answered-by values reply r e out (numbers values r) after refl f
 
--- an answer that writes more bytes than the buffer holds is refused, and given where there is room
-pub room-short : {A : Type 0} (a : A) (bytes out : List ℕ) → length out < length bytes → in-room a bytes out ≡ refuse 15
-room-short a bytes out l = rw (lt-leb (length bytes) (length out) l)
+-- an answer that writes more bytes than the buffer holds is refused by 15, and given where there is room
+pub answered-short : {A : Type 0} (values : A → List ℕ) (a : A) (bytes out after : List ℕ) → length out < length bytes → after ≡ out
+    → Answered values (in-room a bytes out) out (15 ∷ []) after
+answered-short values a bytes out after l same = answered-by values (in-room a bytes out) (refuse 15) (rw (lt-leb (length bytes) (length out) l)) out (15 ∷ []) after refl same
 
-pub room-given : {A : Type 0} (a : A) (bytes out : List ℕ) → length bytes ≤ length out → in-room a bytes out ≡ give a bytes
-room-given a bytes out l = rw (le-leb (length bytes) (length out) l)
+pub answered-room : {A : Type 0} (values : A → List ℕ) (a : A) (bytes out ns after : List ℕ) → length bytes ≤ length out → ns ≡ 0 ∷ values a → after ≡ written bytes out
+    → Answered values (in-room a bytes out) out ns after
+answered-room values a bytes out ns after l e w = answered-by values (in-room a bytes out) (give a bytes) (rw (le-leb (length bytes) (length out) l)) out ns after e w
 
 -- a reply has one answer's numbers, and leaves one buffer
 pub answered-once : {A : Type 0} (values : A → List ℕ) (reply : Reply A) (out ns ms after rest : List ℕ)

@@ -62,7 +62,7 @@ abbrev pub moved : Turn → Option ℕ
 moved (stops e sent) = none
 moved (moves t sent) = some t
 
--- where the next move leads, if there is one; a MOVE_TO to the own state is a move
+-- where the next move leads, if there is one; one to the own state is a move, by a MOVE_TO or by a DO
 unfoldable pub next : Class → List Child → ℕ → Option ℕ
 next c ks q = moved (turn c ks q)
 

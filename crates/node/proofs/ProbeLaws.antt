@@ -1,19 +1,18 @@
 -- Laws about specs/Probing.antt: the first clause whose guard is true on the sets is what the tree's probe finds.
 -- Assumes nothing.
-use Prim.Native.Nat.{ℕ, zero, suc, _+_, _*_, _<_, _≤_}
+use Prim.Native.Nat.{ℕ, zero, suc, _+_, _<_, _≤_}
 use native.Mathlib.Omega.{arith}
 use mathlib.Core.Path.{_≡_, refl, sym, _∙_, ap}
 use mathlib.Core.Bool.{Bool, true, false}
 use mathlib.Core.List.{List}
 use mathlib.Core.Logic.{_⊎_, inl, inr}
-use lib.ListN.{length, List·getD-eq-default}
 use Rattle.model.specs.Words.{listed}
 use Rattle.model.specs.Tree.{Child, When, State}
 use Rattle.model.specs.Guards.{holds}
 use Rattle.model.specs.Node.{state-of, nothing, found, first-true, probe}
 use Rattle.model.proofs.Words.{lt-or-le, below-next, least-some, least-none, least-found, least-not, least-told}
-use Rattle.records.specs.Bytes.{byte}
 use Rattle.sheet.specs.Contents.{body, bodies}
+use Rattle.bodies.proofs.CheckLaws.{past-count}
 use Rattle.bodies.specs.Clauses.{when-count, guard-place, referrer-number, target, referrer-of}
 use Rattle.records.specs.Bytes.{in-fours}
 use Rattle.records.specs.GuardRecords.{guard-from}
@@ -109,11 +108,7 @@ module _ (b : List ℕ) (p : Places) (stands : Stands b p) (q : ℕ) where
   -- a state past the last has no clause: its count lies past the end
   no-count : in-fours (body b 1) ≤ q → when-count (body b 1) q ≡ 0
   unfolding bodies
-  no-count l =
-      let whole : length (body b 1) ≡ in-fours (body b 1) * 4 = counted b (stands-right b p stands) .states-whole in
-      let x : byte (body b 1) (q * 4 + 0) ≡ 0 = List·getD-eq-default (body b 1) 0 (let z : length (body b 1) ≤ q * 4 + 0 = omega arith in z) in
-      let y : byte (body b 1) (q * 4 + 0 + 1) ≡ 0 = List·getD-eq-default (body b 1) 0 (let z : length (body b 1) ≤ q * 4 + 0 + 1 = omega arith in z) in
-      rw (x, y)
+  no-count l = past-count (body b 1) 0 q (counted b (stands-right b p stands) .states-whole) l
 
   module _ (sets : List ℕ) (r : Run) (run-is : RunIs r (body b 1) 0 q) (k : ℕ) (hit : k ≡ first-hit b sets (r .first) (r .count)) where
     -- the clauses of a state that is there

@@ -3,13 +3,13 @@
 use Prim.Native.Nat.{ℕ, _-_, _<_, _≤_}
 use native.Mathlib.Omega.{arith}
 use mathlib.Core.Path.{_≡_, refl, sym, _∙_, ap}
-use mathlib.Core.List.{List, [], _∷_, _++_}
+use mathlib.Core.List.{List, _∷_, _++_}
 use lib.ListN.{length, getD, take, drop, length-take}
 use Rattle.model.specs.Running.{Sent}
 use Rattle.model.specs.Node as Tree
 use Rattle.model.specs.Values.{settled-values}
 use Rattle.model.specs.Answers.{ending-as, phased-values, phase-numbers}
-use Rattle.model.specs.Replies.{refuse, give, written, Answered}
+use Rattle.model.specs.Replies.{written, Answered}
 use Rattle.model.specs.declared.OwnState.{OwnState}
 use Rattle.model.specs.declared.Refusal.the-variants.{Room}
 use Rattle.model.specs.declared.Ending.{Ending}
@@ -17,7 +17,7 @@ use Rattle.model.specs.declared.Phase.{Phase}
 use Rattle.model.specs.declared.Phase.the-variants.{Settled, Loops as Looping}
 use Rattle.model.specs.declared.PhaseAnswer.{PhaseAnswer}
 use Rattle.model.specs.declared.PhaseAnswer.the-variants.{Given, Refused}
-use Rattle.model.proofs.ReplyLaws.{answered-by, room-short, room-given}
+use Rattle.model.proofs.ReplyLaws.{answered-short, answered-room}
 use Rattle.children.specs.ChildList.{sent-bytes}
 use Rattle.running.proofs.SendLaws.{sets-all}
 use Rattle.phases.specs.Phasing.{bytes-of-phase, reply-phase, phasing-values}
@@ -30,13 +30,12 @@ PhasedSo t out after r = Answered phasing-values (reply-phase t out) out (phase-
 -- 15: what is sent needs more than the buffer holds
 pub short-so : (t : Tree.Phase) (out after : List ℕ) → length out < length (bytes-of-phase t) → after ≡ out → PhasedSo t out after (Refused Room)
 unfolding reply-phase
-short-so t out after l same = answered-by phasing-values (reply-phase t out) (refuse 15) (room-short t (bytes-of-phase t) out l) out (15 ∷ []) after refl same
+short-so t out after l same = answered-short phasing-values t (bytes-of-phase t) out after l same
 
 -- with room it is given and written
 pub given-so : (t : Tree.Phase) (out after : List ℕ) (r : Phase) → phased-values r ≡ phasing-values t → length (bytes-of-phase t) ≤ length out → after ≡ written (bytes-of-phase t) out → PhasedSo t out after (Given r)
 unfolding reply-phase
-given-so t out after r e l w =
-    answered-by phasing-values (reply-phase t out) (give t (bytes-of-phase t)) (room-given t (bytes-of-phase t) out l) out (phase-numbers (Given r)) after (ap (_∷_ 0) e) w
+given-so t out after r e l w = answered-room phasing-values t (bytes-of-phase t) out (phase-numbers (Given r)) after l (ap (_∷_ 0) e) w
 
 -- the fourth of the values is the number of bytes written
 settled-count : (e : Tree.Ending) (q m n : ℕ) → getD (settled-values e q m n) 3 0 ≡ n

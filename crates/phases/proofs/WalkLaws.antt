@@ -5,9 +5,8 @@ use native.Mathlib.Omega.{arith}
 use native.Mathlib.Decide.{ℕ-discrete}
 use mathlib.Core.Path.{_≡_, refl, sym, _∙_, ap}
 use mathlib.Core.List.{List, [], _∷_, _++_}
-use mathlib.Core.Logic.{_⊎_, inl, inr}
 use mathlib.Core.Option.{some}
-use lib.ListN.{length, getD, set, replicate, length-set, getD-replicate, List·getD-eq-default}
+use lib.ListN.{length, getD, set, replicate, length-set}
 use lib.Seq.{sets, length-sets, getD-set-same, getD-set-other}
 use Rattle.model.specs.Words.{Bytes}
 use Rattle.model.specs.Tree.{Child}
@@ -18,7 +17,8 @@ use Rattle.model.specs.Answers.{ending-as}
 use Rattle.model.specs.declared.OwnState.{OwnState}
 use Rattle.model.specs.declared.Ending.{Ending}
 use Rattle.model.specs.declared.Phase.the-variants.{Settled, Loops as Looping}
-use Rattle.model.proofs.Words.{clash, lt-or-le}
+use Rattle.model.proofs.Words.{clash}
+use Rattle.model.proofs.Lists.{getD-alike}
 use Rattle.model.proofs.Moves.{after-add, after-some, after-zero, never-twice}
 use Rattle.model.proofs.NodeLaws.{next-within, stops-next, moves-next, next-moves}
 use Rattle.records.specs.Bytes.{in-fours}
@@ -51,14 +51,6 @@ pub inside-same : (l : List ℕ) (i d e : ℕ) → i < length l → getD l i d �
 inside-same [] i d e h = absurd (omega arith)
 inside-same (x ∷ l) zero d e h = refl
 inside-same (x ∷ l) (suc i) d e h = inside-same l i d e (omega arith)
-
--- where no state's move is known yet
-unknown : (r : ℕ) → _≡_ {A = ℕ} (getD (replicate 32 255) r 255) 255
-unknown r = go (lt-or-le r 32)
-  where
-    go : (r < 32) ⊎ (32 ≤ r) → _≡_ {A = ℕ} (getD (replicate 32 255) r 255) 255
-    go (inl l) = getD-replicate 32 r 255 255 l
-    go (inr l) = List·getD-eq-default (replicate 32 255) 255 l
 
 -- where the next move leads with the children of a list
 abbrev next-in : List ℕ → List ℕ → Next
@@ -106,7 +98,7 @@ module _ (b list : List ℕ) (bytes : Bytes b) (accepted : Accepted b) (short : 
         long = refl;
         same = refl;
         there = after-zero next q;
-        known = λ r n. absurd (n (unknown r));
+        known = λ r n. absurd (n (getD-alike 32 r 255));
         sent = [];
         walked = rw z;
         fresh = λ e. record { buffer = refl; place = refl };

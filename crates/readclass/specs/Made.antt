@@ -10,8 +10,8 @@ use Rattle.naming.specs.NameLists.{Lists}
 use Rattle.readings.specs.Promise.{Answered}
 use Rattle.classfile.specs.Heads as H
 use Rattle.classfile.specs.Heads.{stretch, head-of, Rooms}
-use Rattle.readclass.specs.declared.sheets.Outcome.{Outcome}
-use Rattle.readclass.specs.declared.sheets.Outcome.the-variants as O
+use Rattle.readclass.specs.declared.converting.Outcome.{Outcome}
+use Rattle.readclass.specs.declared.converting.Outcome.the-variants as O
 
 -- how many bytes of the sheet are printed
 abbrev pub size-of : Outcome → ℕ

@@ -1,15 +1,15 @@
 // readclass: reads a class file from standard input, and writes its class sheet to standard output. A file that is refused gives no sheet,
 // and one line on standard error that says where and why.
 mod blame;
+mod converting;
 mod places;
 mod reasons;
 mod saying;
-mod sheets;
 mod sizing;
 
+use converting::Outcome;
+use converting::convert;
 use saying::say;
-use sheets::Outcome;
-use sheets::convert;
 use texts::writing::least;
 ghost use mathlib.Core.Path.{_≡_};
 ghost use lib.ListN.{length};

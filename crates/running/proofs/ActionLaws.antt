@@ -1,6 +1,6 @@
 -- Laws about an action clause of a state: its statements, cut out of the bodies, read as the body that the class has there.
 -- Assumes nothing.
-use Prim.Native.Nat.{ℕ, _+_, _*_, _<_, _≤_}
+use Prim.Native.Nat.{ℕ, _+_, _<_, _≤_}
 use native.Mathlib.Omega.{arith}
 use mathlib.Core.Path.{_≡_, refl, ap, _∙_}
 use mathlib.Core.Bool.{true}
@@ -8,7 +8,6 @@ use mathlib.Core.List.{List}
 use mathlib.Core.Logic.{_⊎_, inl, inr}
 use mathlib.Core.Option.{Option, none, some}
 use lib.Dec.{eqb}
-use lib.ListN.{length, List·getD-eq-default}
 use borrow.Author.Tests.{eqb-true}
 use Rattle.model.specs.Words.{is-some}
 use Rattle.model.specs.Tree.{Part, Action, no-action}
@@ -17,10 +16,10 @@ use Rattle.model.specs.Node.{action-of}
 use Rattle.model.proofs.Words.{clash, and-right, lt-or-le, each-elim}
 use Rattle.model.proofs.RunLaws.{part-size}
 use Rattle.records.specs.Bytes.{in-fours}
-use Rattle.bodies.specs.Clauses.{count-at, count-sum, first-action, action-count, statement-bytes, body-of}
+use Rattle.bodies.specs.Clauses.{count-sum, first-action, action-count, statement-bytes, body-of}
 use Rattle.bodies.specs.PartChecks.{Reads}
 use Rattle.bodies.specs.BodyRules.{counts-right, statements-right}
-use Rattle.bodies.proofs.CheckLaws.{sum-next}
+use Rattle.bodies.proofs.CheckLaws.{sum-next, past-count}
 use Rattle.bodies.proofs.Parts.{body-sized}
 use Rattle.bodies.proofs.StatementLaws.{sum-inside, statements-whole}
 use Rattle.sheet.specs.Contents.{body, bodies}
@@ -32,13 +31,6 @@ use Rattle.children.specs.ChildList.{children-of}
 use Rattle.children.proofs.ChildListLaws.{half, bytes-most}
 use Rattle.running.specs.Running.{Does, Runnable, Room, RunsPart}
 use Rattle.running.specs.declared.Ran.{Ran}
-
--- a record past the last counts nothing
-pub past-count : (s : List ℕ) (offset q : ℕ) → length s ≡ in-fours s * 4 → in-fours s ≤ q → count-at s offset q ≡ 0
-past-count s offset q e l =
-    let x : length s ≤ q * 4 + offset = omega arith in
-    let y : length s ≤ q * 4 + offset + 1 = omega arith in
-    rw (List·getD-eq-default s 0 x, List·getD-eq-default s 0 y)
 
 -- a value that is there
 is-there {ℓ} : {A : Type ℓ} (o : Option A) → is-some o ≡ true → (a : A) × (o ≡ some a)

@@ -1,7 +1,7 @@
 use Rattle.readclass.proofs.Making.{too-long, converted}
 use borrow.Author.Needs.{needs}
-use Rattle.readclass.proofs.sheets.convert.Statement.{statement}
-use Rattle.readclass.proofs.sheets.convert.Tie as tie
+use Rattle.readclass.proofs.converting.convert.Statement.{statement}
+use Rattle.readclass.proofs.converting.convert.Tie as tie
 
 returns : tie.Need-returns
 returns c = too-long _ _ (c .before .if1 .taken)

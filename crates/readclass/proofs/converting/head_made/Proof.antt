@@ -1,7 +1,7 @@
 use Rattle.readclass.proofs.Making.{head-inside, made-read, made-bad}
 use borrow.Author.Needs.{needs}
-use Rattle.readclass.proofs.sheets.head_made.Statement.{statement}
-use Rattle.readclass.proofs.sheets.head_made.Tie as tie
+use Rattle.readclass.proofs.converting.head_made.Statement.{statement}
+use Rattle.readclass.proofs.converting.head_made.Tie as tie
 
 lists-made-requires : tie.Need-lists-made-requires
 lists-made-requires c κs = let h = head-inside _ _ _ _ _ (c .before .before .before .before .before .before .before .before .before .before .before .before .before .read-head .ensures .0) _ _ (c .before .before .before .before .before .answer2 .given .1) in (h .1, h .0)

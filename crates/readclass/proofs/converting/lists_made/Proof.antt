@@ -1,7 +1,7 @@
 use Rattle.classfile.proofs.PartLaws.{counted}
 use borrow.Author.Needs.{needs}
-use Rattle.readclass.proofs.sheets.lists_made.Statement.{statement}
-use Rattle.readclass.proofs.sheets.lists_made.Tie as tie
+use Rattle.readclass.proofs.converting.lists_made.Statement.{statement}
+use Rattle.readclass.proofs.converting.lists_made.Tie as tie
 
 slice-aggregate-text-made : tie.Need-slice-aggregate-text-made
 slice-aggregate-text-made c = counted _ _ (c .before .before .before .before .before .before .pre .1 .names)

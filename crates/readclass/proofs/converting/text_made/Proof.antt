@@ -1,8 +1,8 @@
 use mathlib.Core.Path.{refl}
 use Rattle.readclass.proofs.Making.{text-read}
 use borrow.Author.Needs.{needs}
-use Rattle.readclass.proofs.sheets.text_made.Statement.{statement}
-use Rattle.readclass.proofs.sheets.text_made.Tie as tie
+use Rattle.readclass.proofs.converting.text_made.Statement.{statement}
+use Rattle.readclass.proofs.converting.text_made.Tie as tie
 
 returns : tie.Need-returns
 returns c = text-read _ _ _ _ _ _ (c .before .before .before .before .before .before .read-class .ensures) _ (c .before .answer .given .1) _ refl
