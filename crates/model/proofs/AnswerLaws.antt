@@ -6,7 +6,7 @@ use mathlib.Core.Path.{_≡_, refl, sym, ap, ap₂}
 use Rattle.model.specs.Tree as Tree
 use Rattle.model.specs.Node as Node
 use Rattle.model.specs.Values.{referrer-values, probed-values, settled-values, loop-values}
-use Rattle.model.specs.Answers.{referrer-as, probed-as, ending-as, phased-values, handled-values, looped-values, judge-numbers, probe-numbers, phase-numbers, command-numbers, loop-numbers, read-numbers}
+use Rattle.model.specs.Answers.{referrer-as, probed-as, ending-as, phased-values, handled-values, looped-values, judge-numbers, probe-numbers, phase-numbers, command-numbers, loop-numbers, read-numbers, write-numbers}
 use Rattle.model.specs.declared.OwnState.{OwnState}
 use Rattle.model.specs.declared.Referrer.{Referrer}
 use Rattle.model.specs.declared.Referrer.the-variants.{MoveTo, Do, Stay}
@@ -32,6 +32,8 @@ use Rattle.model.specs.declared.LoopAnswer.{LoopAnswer}
 use Rattle.model.specs.declared.LoopAnswer.the-variants as L
 use Rattle.model.specs.declared.ReadAnswer.{ReadAnswer}
 use Rattle.model.specs.declared.ReadAnswer.the-variants as R
+use Rattle.model.specs.declared.WriteAnswer.{WriteAnswer}
+use Rattle.model.specs.declared.WriteAnswer.the-variants as T
 use Rattle.model.proofs.Words.{clash}
 use Rattle.model.proofs.RefusalLaws.{same-number, not-zero, not-sixteen}
 
@@ -167,3 +169,9 @@ same-read (R.WrongWord p) (R.Read l n) e = absurd (clash (cc))
 same-read (R.Read k m) (R.Refused y) e = absurd (not-zero y (cc))
 same-read (R.Read k m) (R.WrongWord q) e = absurd (clash (cc))
 same-read (R.Read k m) (R.Read l n) e = let f : k ≡ l = cc in let g : m ≡ n = cc in λ i. R.Read (f i) (g i)
+
+pub same-write : (r s : WriteAnswer) → write-numbers r ≡ write-numbers s → r ≡ s
+same-write (T.Refused x) (T.Refused y) e = ap T.Refused (same-number x y (cc))
+same-write (T.Refused x) (T.Written n) e = absurd (not-zero x (cc))
+same-write (T.Written m) (T.Refused y) e = absurd (not-zero y (cc))
+same-write (T.Written m) (T.Written n) e = ap T.Written (cc)

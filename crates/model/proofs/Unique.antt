@@ -3,7 +3,7 @@
 use mathlib.Core.Path.{sym, _∙_}
 use Rattle.model.specs.Unique.{Equations, Readings}
 use Rattle.model.proofs.RefusalLaws.{same-number}
-use Rattle.model.proofs.AnswerLaws.{same-state, same-referrer, same-probed, same-ending, same-phase, same-judge, same-probe, same-phase-answer, same-command, same-loop, same-read}
+use Rattle.model.proofs.AnswerLaws.{same-state, same-referrer, same-probed, same-ending, same-phase, same-judge, same-probe, same-phase-answer, same-command, same-loop, same-read, same-write}
 
 pub equations : Equations
 equations =
@@ -27,4 +27,5 @@ readings =
       commanding = same-command;
       looping = same-loop;
       reading = same-read;
+      writing = same-write;
     }

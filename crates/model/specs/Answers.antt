@@ -30,6 +30,8 @@ use Rattle.model.specs.declared.LoopAnswer.{LoopAnswer}
 use Rattle.model.specs.declared.LoopAnswer.the-variants as L
 use Rattle.model.specs.declared.ReadAnswer.{ReadAnswer}
 use Rattle.model.specs.declared.ReadAnswer.the-variants as R
+use Rattle.model.specs.declared.WriteAnswer.{WriteAnswer}
+use Rattle.model.specs.declared.WriteAnswer.the-variants as T
 
 -- what a probe gives and by what a phase settles, as the tree has it
 abbrev pub referrer-as : Referrer → Tree.Referrer
@@ -87,3 +89,8 @@ abbrev pub read-numbers : ReadAnswer → List ℕ
 read-numbers (R.Refused x) = number-of x ∷ []
 read-numbers (R.WrongWord at) = 16 ∷ at ∷ []
 read-numbers (R.Read length states) = 0 ∷ length ∷ states ∷ []
+
+-- 0 and the number of bytes written
+abbrev pub write-numbers : WriteAnswer → List ℕ
+write-numbers (T.Refused x) = number-of x ∷ []
+write-numbers (T.Written n) = 0 ∷ n ∷ []

@@ -2,7 +2,7 @@
 -- Assumes nothing.
 use Prim.Native.Nat.{ℕ}
 use Rattle.model.specs.declared.Refusal.{Refusal}
-use Rattle.model.specs.declared.Refusal.the-variants.{SheetLength, Contents, EmptyNameSet, ClauseCounts, GuardLayout, GuardReach, Target, ActionClause, Statement, ChildList, AskedState, AskedCommand, PresentBit, NameCount, Room, Naming, Limit}
+use Rattle.model.specs.declared.Refusal.the-variants.{SheetLength, Contents, EmptyNameSet, ClauseCounts, GuardLayout, GuardReach, Target, ActionClause, Statement, ChildList, AskedState, AskedCommand, PresentBit, NameCount, Room, Naming, Limit, WrittenGuards}
 
 abbrev pub number-of : Refusal → ℕ
 number-of SheetLength = 1
@@ -22,3 +22,4 @@ number-of NameCount = 14
 number-of Room = 15
 number-of Naming = 17
 number-of Limit = 18
+number-of WrittenGuards = 19

@@ -2,7 +2,7 @@
 -- Assumes nothing.
 use mathlib.Core.Path.{_≡_}
 use Rattle.model.specs.Refusals.{number-of}
-use Rattle.model.specs.Answers.{referrer-as, probed-as, ending-as, phased-values, judge-numbers, probe-numbers, phase-numbers, command-numbers, loop-numbers, read-numbers}
+use Rattle.model.specs.Answers.{referrer-as, probed-as, ending-as, phased-values, judge-numbers, probe-numbers, phase-numbers, command-numbers, loop-numbers, read-numbers, write-numbers}
 use Rattle.model.specs.declared.OwnState.{OwnState}
 
 -- any two results that a promise allows are equal
@@ -32,3 +32,4 @@ pub record Readings : Type 0 where
   pub commanding : TellsApart command-numbers
   pub looping : TellsApart loop-numbers
   pub reading : TellsApart read-numbers
+  pub writing : TellsApart write-numbers

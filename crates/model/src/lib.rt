@@ -31,6 +31,7 @@ pub enum Refusal {
     Room,
     Naming,
     Limit,
+    WrittenGuards,
 }
 
 // A when clause's referrer with its target: an own state, an action clause's number within the state, none.
@@ -106,6 +107,12 @@ pub enum ReadAnswer {
     Read(usize, usize),
 }
 
+// The answer to a sheet whose text is asked for: refused, or the number of bytes written.
+pub enum WriteAnswer {
+    Refused(Refusal),
+    Written(usize),
+}
+
 // The number of a refusal in the paper's table.
 pub fn refusal_number(x: Refusal) -> u64
     ensures { λ r. ⌜ r ≡ number-of x ⌝ }
@@ -128,5 +135,6 @@ pub fn refusal_number(x: Refusal) -> u64
         Refusal::Room => 15,
         Refusal::Naming => 17,
         Refusal::Limit => 18,
+        Refusal::WrittenGuards => 19,
     }
 }
