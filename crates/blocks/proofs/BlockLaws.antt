@@ -46,7 +46,8 @@ use Rattle.arrows.specs.declared.levels.Moves.the-variants.{Forever, Longest}
 use Rattle.arrows.proofs.LevelLaws.{some-both}
 use Rattle.arrows.proofs.Steps.{Fits, Told, own-aim, leads-next, Steps, lane-steps}
 use Rattle.blocks.specs.Search.{TablesOf, BlockDoes, BlockIs}
-use Rattle.blocks.proofs.ClauseLaws.{states-few, states-some, classes-few, states-are, all-whens, next-first, when-of, when-number, guard-read, body-at, referrer-fits, span, last-action, clause-read, ranges}
+use Rattle.accepted.proofs.ClauseLaws.{states-few, states-some, classes-few, states-are, all-whens, next-first, when-of, when-number, guard-read, body-at}
+use Rattle.blocks.proofs.ClauseLaws.{referrer-fits, span, last-action, clause-read, ranges}
 
 -- a when clause to stand where there is none
 abbrev no-when : When

@@ -1,39 +1,29 @@
 -- Laws about specs/ClauseTables.antt: a state, a clause and an action clause more, and that the tables of an accepted sheet are its class's clauses.
 -- Assumes nothing.
-use Prim.Native.Nat.{ℕ, zero, suc, _+_, _*_, _-_, _/_, _<_, _≤_}
+use Prim.Native.Nat.{ℕ, zero, suc, _+_, _*_, _-_, _<_, _≤_}
 use native.Mathlib.Omega.{arith}
 use native.Mathlib.Decide.{ℕ-discrete}
 use native.Mathlib.Numerals.{add-one}
 use mathlib.Core.Path.{_≡_, refl, sym, ap, _∙_, subst}
-use mathlib.Core.Bool.{Bool, true, _&&_}
 use mathlib.Core.List.{List}
 use mathlib.Core.Logic.{_⊎_, inl, inr}
-use mathlib.Core.Option.{Option, none, some}
-use lib.Dec.{eqb}
 use lib.ListN.{length, getD, set, length-set, replicate}
 use lib.Seq.{getD-set-same, getD-set-other}
-use borrow.Author.Tests.{eqb-true}
-use Rattle.model.specs.Words.{maybe, is-some}
-use Rattle.model.specs.Tree.{Referrer, move-to, run, stay, When, Part, end, Action, no-action}
-use Rattle.model.specs.Node.{own-states, state-of, action-of}
+use Rattle.model.specs.Tree.{Referrer, move-to, run, stay, Action}
 use Rattle.model.specs.Sound.{ReferrerRight}
-use Rattle.model.proofs.Words.{below-next, and-left, and-right, each-elim, clash, lt-or-le}
-use Rattle.model.proofs.Lists.{getD-listed, getD-zeros}
+use Rattle.model.proofs.Words.{below-next, lt-or-le}
+use Rattle.model.proofs.Lists.{getD-zeros}
 use Rattle.records.specs.Bytes.{in-fours, in-eights}
-use Rattle.records.specs.GuardRecords.{Read, got, broken, is-read, guard-from}
-use Rattle.bodies.specs.Clauses.{count-sum, when-count, first-when, action-count, first-action, guard-place, statement-count, first-statement, statement-bytes, body-of}
-use Rattle.bodies.specs.BodyRules.{guards-right, counts-right, actions-plain, commands-apart, actions-right, statements-right}
+use Rattle.bodies.specs.Clauses.{count-sum, when-count, first-when, action-count, first-action, guard-place, statement-count, first-statement}
+use Rattle.bodies.specs.BodyRules.{actions-right}
 use Rattle.bodies.specs.PartChecks.{Reads}
 use Rattle.bodies.proofs.CheckLaws.{sum-none, sum-next}
-use Rattle.bodies.proofs.StatementLaws.{sum-inside, statements-whole}
-use Rattle.sheet.specs.Contents.{body, bodies}
-use Rattle.sheet.specs.Reading.{guard-in, when-in, action-in, state-in, class-of}
+use Rattle.bodies.proofs.StatementLaws.{sum-inside}
+use Rattle.sheet.specs.Contents.{body}
+use Rattle.sheet.specs.Reading.{class-of}
 use Rattle.sheet.specs.Verdict.{Stands}
 use Rattle.sheet.specs.declared.judging.Places.{Places}
-use Rattle.sheet.proofs.Contents.{counted, body-most, body-whole}
-use Rattle.sheet.proofs.Reading.{own-states-in, state-of-in, whens-in, actions-in, action-of-in}
-use Rattle.sheet.proofs.Rules.{accepted-right}
-use Rattle.accepted.proofs.ReaderLaws.{stands-right}
+use Rattle.accepted.proofs.ClauseLaws.{whens-few, states-few, states-are, actions-few, all-actions, all-statements, next-first, next-action, first-inside, body-at, body-read, action-number, action-at}
 use Rattle.arrows.specs.Sorting.{aim, clause-bytes, Ranges}
 use Rattle.arrows.specs.declared.sorting.Clauses.{Clauses}
 use Rattle.arrows.proofs.Steps.{Fits}
@@ -224,68 +214,8 @@ read-all b whens places aims firsts actions froms clauses n s ew ec W l m F A R 
       number = e;
     }
 
--- an accepted sheet has at most 256 when clauses, 32 states and 1,024 guard records
+-- the tables of an accepted sheet
 module _ (b : List ℕ) (p : Places) (stands : Stands b p) where
-  pub whens-few : in-fours (body b 2) ≤ 256
-  unfolding bodies
-  whens-few = counted b (stands-right b p stands) .whens-most
-
-  pub states-few : in-fours (body b 1) ≤ 32
-  unfolding bodies
-  states-few = counted b (stands-right b p stands) .states-most
-
-  pub states-some : 1 ≤ in-fours (body b 1)
-  unfolding bodies
-  states-some = counted b (stands-right b p stands) .states-least
-
-  pub classes-few : in-fours (body b 0) ≤ 8
-  unfolding bodies
-  classes-few = counted b (stands-right b p stands) .classes-most
-
-  pub guards-short : length (body b 3) ≤ 8192
-  guards-short =
-      let m : length (body b 3) / 8 ≤ 1024 = body-most b (stands-right b p stands) 3 (omega arith) in
-      let w : length (body b 3) ≡ length (body b 3) / 8 * 8 = body-whole b (stands-right b p stands) 3 (omega arith) in
-      omega arith
-
-  pub states-are : own-states (class-of b) ≡ in-fours (body b 1)
-  unfolding class-of bodies
-  states-are = own-states-in (bodies b)
-
-  pub actions-few : in-fours (body b 4) ≤ 256
-  unfolding bodies
-  actions-few = counted b (stands-right b p stands) .actions-most
-
-  -- the when clauses of all states are W, their action clauses A, and the statements of these T
-  pub all-whens : first-when (body b 1) (in-fours (body b 1)) ≡ in-fours (body b 2)
-  unfolding counts-right bodies
-  all-whens =
-      eqb-true (count-sum (body b 1) 0 (in-fours (body b 1))) (in-fours (body b 2))
-      (and-left (eqb (count-sum (body b 1) 0 (in-fours (body b 1))) (in-fours (body b 2))) (eqb (count-sum (body b 1) 2 (in-fours (body b 1))) (in-fours (body b 4))) (accepted-right b (stands .accepted) .bodies .counts))
-
-  all-actions : first-action (body b 1) (in-fours (body b 1)) ≡ in-fours (body b 4)
-  unfolding counts-right bodies
-  all-actions =
-      eqb-true (count-sum (body b 1) 2 (in-fours (body b 1))) (in-fours (body b 4))
-      (and-right (eqb (count-sum (body b 1) 0 (in-fours (body b 1))) (in-fours (body b 2))) (eqb (count-sum (body b 1) 2 (in-fours (body b 1))) (in-fours (body b 4))) (accepted-right b (stands .accepted) .bodies .counts))
-
-  all-statements : first-statement (body b 4) (in-fours (body b 4)) ≡ in-eights (body b 5)
-  unfolding actions-right bodies
-  all-statements =
-      let last : Bool = eqb (count-sum (body b 4) 2 (in-fours (body b 4))) (in-eights (body b 5)) in
-      eqb-true (count-sum (body b 4) 2 (in-fours (body b 4))) (in-eights (body b 5))
-      (and-right (commands-apart (body b 1) (body b 4)) last (and-right (actions-plain (body b 4)) (commands-apart (body b 1) (body b 4) && last) (accepted-right b (stands .accepted) .bodies .actions)))
-
-  -- those of state q stand between its first and that of the next state
-  pub next-first : (q : ℕ) → first-when (body b 1) (q + 1) ≡ first-when (body b 1) q + when-count (body b 1) q
-  next-first q = sym (sum-next (body b 1) 0 q (first-when (body b 1) q) (when-count (body b 1) q) refl refl)
-
-  pub next-action : (q : ℕ) → first-action (body b 1) (q + 1) ≡ first-action (body b 1) q + action-count (body b 1) q
-  next-action q = sym (sum-next (body b 1) 2 q (first-action (body b 1) q) (action-count (body b 1) q) refl refl)
-
-  pub first-inside : (q : ℕ) → q < in-fours (body b 1) → first-when (body b 1) (q + 1) ≤ in-fours (body b 2)
-  first-inside q l = sum-inside (body b 1) 0 q (in-fours (body b 1)) (in-fours (body b 2)) l all-whens
-
   -- what is lent for state q
   pub state-lent : (firsts actions places aims : List ℕ) (q s : ℕ) → FirstsOf (body b 1) 0 firsts → FirstsOf (body b 1) 2 actions → s ≡ in-fours (body b 1) → q < s → length places ≡ 256 → length aims ≡ 256
       → StateLent (getD firsts q 0) (getD firsts (q + 1) 0) q (getD actions q 0) places aims
@@ -296,65 +226,20 @@ module _ (b : List ℕ) (p : Places) (stands : Stands b p) where
       let z = A .first q (omega arith) in
       record {
         rising = (let r = sum-rises (body b 1) 0 q (q + 1) (omega arith) in omega arith);
-        inside = (let i = first-inside q low in let w = whens-few in omega arith);
-        state = (let f = states-few in omega arith);
-        few = (let r = sum-rises (body b 1) 2 q (in-fours (body b 1)) (omega arith) in let a = all-actions in let f = actions-few in omega arith);
+        inside = (let i = first-inside b p stands q low in let w = whens-few b p stands in omega arith);
+        state = (let f = states-few b p stands in omega arith);
+        few = (let r = sum-rises (body b 1) 2 q (in-fours (body b 1)) (omega arith) in let a = all-actions b p stands in let f = actions-few b p stands in omega arith);
         of-places = lp;
         of-aims = la;
       }
 
-  -- clause j of state q
-  pub when-of : (q j : ℕ) (d : When) → q < in-fours (body b 1) → j < when-count (body b 1) q → getD (state-of (class-of b) q .whens) j d ≡ when-in (bodies b) (first-when (body b 1) q + j)
-  unfolding class-of bodies state-in
-  when-of q j d l m =
-      rw (state-of-in (bodies b) q l) (getD-listed (first-when (body b 1) q) (when-count (body b 1) q) (when-in (bodies b)) d j (first-when (body b 1) q + j) m refl)
-
-  pub when-number : (q : ℕ) → q < in-fours (body b 1) → length (state-of (class-of b) q .whens) ≡ when-count (body b 1) q
-  unfolding class-of bodies
-  when-number q l = whens-in (bodies b) q l
-
-  -- its guard is read
-  pub guard-read : (w : ℕ) → w < in-fours (body b 2) → (e : ℕ) × (guard-from (body b 3) (guard-place (body b 2) w) ≡ got (when-in (bodies b) w .guard) e)
-  unfolding guards-right bodies when-in guard-in
-  guard-read w l =
-      go (guard-from (body b 3) (guard-place (body b 2) w)) refl
-      (each-elim (in-fours (body b 2)) (λ w. is-read (guard-from (body b 3) (guard-place (body b 2) w))) (accepted-right b (stands .accepted) .bodies .guards) w l)
-    where
-      go : (o : Read) → guard-from (body b 3) (guard-place (body b 2) w) ≡ o → is-read o ≡ true → (e : ℕ) × (guard-from (body b 3) (guard-place (body b 2) w) ≡ got (when-in (bodies b) w .guard) e)
-      go (got g e) q h = (e, rw q)
-      go broken q h = absurd (clash (cc))
-
-  -- the part that action clause a reads as
-  abbrev pub body-at : ℕ → Part
-  body-at a = action-in (bodies b) a .body
-
-  pub body-read : (a : ℕ) → a < in-fours (body b 4) → Reads (body b 3) (statement-bytes (body b 4) (body b 5) a) (body-at a)
-  unfolding bodies statements-right action-in body-of
-  body-read a l =
-      go (body-of (in-fours (body b 0)) (in-fours (body b 1)) (body b 3) (body b 4) (body b 5) a) refl
-      (each-elim (in-fours (body b 4)) (λ a. is-some (body-of (in-fours (body b 0)) (in-fours (body b 1)) (body b 3) (body b 4) (body b 5) a)) (accepted-right b (stands .accepted) .bodies .statements) a l)
-    where
-      go : (o : Option Part) → body-of (in-fours (body b 0)) (in-fours (body b 1)) (body b 3) (body b 4) (body b 5) a ≡ o → is-some o ≡ true
-          → Reads (body b 3) (statement-bytes (body b 4) (body b 5) a) (maybe o (λ _. end) (λ p. p))
-      go none e h = absurd (clash (cc))
-      go (some p) e h = record { depth = 8; classes = in-fours (body b 0); states = in-fours (body b 1); reads = rw (statements-whole (body b 4) (body b 5) a) e }
-
-  -- action clause a of state q
-  action-number : (q : ℕ) → q < in-fours (body b 1) → length (state-of (class-of b) q .actions) ≡ action-count (body b 1) q
-  unfolding class-of bodies
-  action-number q l = actions-in (bodies b) q l
-
-  action-at : (q a : ℕ) → q < in-fours (body b 1) → a < action-count (body b 1) q → action-of (class-of b) q a ≡ action-in (bodies b) (first-action (body b 1) q + a)
-  unfolding class-of bodies
-  action-at q a l m = action-of-in (bodies b) q a no-action l m
-
   -- a referrer that is right fits the tables
-  pub referrer-fits : (q : ℕ) → q < in-fours (body b 1) → (r : Referrer) → ReferrerRight (class-of b) q r → Fits body-at (class-of b) q (first-action (body b 1) q) (first-action (body b 1) (q + 1)) r
-  referrer-fits q l (move-to t) h = let e = states-are in let f = states-few in omega arith
+  pub referrer-fits : (q : ℕ) → q < in-fours (body b 1) → (r : Referrer) → ReferrerRight (class-of b) q r → Fits (body-at b p stands) (class-of b) q (first-action (body b 1) q) (first-action (body b 1) (q + 1)) r
+  referrer-fits q l (move-to t) h = let e = states-are b p stands in let f = states-few b p stands in omega arith
   referrer-fits q l (run a) h =
-      let few : a < action-count (body b 1) q = (let e = action-number q l in omega arith) in
-      let n = next-action q in
-      (omega arith, sym (ap (λ (x : Action). x .body) (action-at q a l few)))
+      let few : a < action-count (body b 1) q = (let e = action-number b p stands q l in omega arith) in
+      let n = next-action b p stands q in
+      (omega arith, sym (ap (λ (x : Action). x .body) (action-at b p stands q a l few)))
   referrer-fits q l stay h = tt
 
   -- the tables of its clauses
@@ -365,39 +250,39 @@ module _ (b : List ℕ) (p : Places) (stands : Stands b p) where
         let low : q < in-fours (body b 1) = omega arith in
         let x = C .firsts-right .first q (omega arith) in
         let y = C .firsts-right .first (q + 1) (omega arith) in
-        (y ∙ next-first q ∙ ap (λ (m : ℕ). m + when-count (body b 1) q) (sym x), rw y (first-inside q low))
+        (y ∙ next-first b p stands q ∙ ap (λ (m : ℕ). m + when-count (body b 1) q) (sym x), rw y (first-inside b p stands q low))
 
     -- the action clauses of all states are A
     pub last-action : getD (r .actions) (r .states) 0 ≡ in-fours (body b 4)
-    last-action = rw (C .number) (C .actions-right .first (in-fours (body b 1)) (omega arith) ∙ all-actions)
+    last-action = rw (C .number) (C .actions-right .first (in-fours (body b 1)) (omega arith) ∙ all-actions b p stands)
 
     -- the statements of action clause a are those of its body
-    pub clause-read : (a : ℕ) → a < in-fours (body b 4) → Reads (body b 3) (clause-bytes (body b 5) (r .froms) a) (body-at a)
+    pub clause-read : (a : ℕ) → a < in-fours (body b 4) → Reads (body b 3) (clause-bytes (body b 5) (r .froms) a) (body-at b p stands a)
     clause-read a l =
         let x = C .froms-right .from a (omega arith) in
         let y = C .froms-right .from (a + 1) (omega arith) in
         let n = sum-next (body b 4) 2 a (first-statement (body b 4) a) (statement-count (body b 4) a) refl refl in
         let z : getD (r .froms) (a + 1) 0 - getD (r .froms) a 0 ≡ statement-count (body b 4) a * 8 = omega arith in
-        rw (z, x) (body-read a l)
+        rw (z, x) (body-read b p stands a l)
 
     pub ranges : Ranges (r .places) (r .aims) (r .firsts) (r .actions) (r .froms) (body b 5) (r .states)
     ranges =
         let n = C .number in
         record {
-          few = (let f = states-few in omega arith);
+          few = (let f = states-few b p stands in omega arith);
           of-places = C .whens .places-long;
           of-aims = C .whens .aims-long;
           of-firsts = C .firsts-right .long;
           of-actions = C .actions-right .long;
           of-froms = C .froms-right .long;
           rising = λ q l. let (e, u) = span q l in omega arith;
-          inside = λ q l. let (e, u) = span q l in let f = whens-few in omega arith;
+          inside = λ q l. let (e, u) = span q l in let f = whens-few b p stands in omega arith;
           actions-rising = λ q t l m.
               let x = C .actions-right .first q (omega arith) in
               let y = C .actions-right .first t (omega arith) in
               let z = sum-rises (body b 1) 2 q t l in
               omega arith;
-          actions-inside = (let e = last-action in let f = actions-few in omega arith);
+          actions-inside = (let e = last-action in let f = actions-few b p stands in omega arith);
           from-rising = λ a l.
               let e = last-action in
               let x = C .froms-right .from a (omega arith) in
@@ -407,6 +292,6 @@ module _ (b : List ℕ) (p : Places) (stands : Stands b p) where
           from-inside = λ a l.
               let e = last-action in
               let y = C .froms-right .from (a + 1) (omega arith) in
-              let z = sum-inside (body b 4) 2 a (in-fours (body b 4)) (in-eights (body b 5)) (omega arith) all-statements in
+              let z = sum-inside (body b 4) 2 a (in-fours (body b 4)) (in-eights (body b 5)) (omega arith) (all-statements b p stands) in
               omega arith;
         }

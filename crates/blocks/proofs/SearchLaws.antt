@@ -36,7 +36,8 @@ use Rattle.arrows.specs.declared.levels.Moves.the-variants.{Forever, Longest}
 use Rattle.blocks.specs.ClauseTables.{ClausesOf}
 use Rattle.blocks.specs.Search.{CellsOf, Tables, TablesOf, Ready, BlockDoes, BlockIs, Finds}
 use Rattle.blocks.specs.declared.search.Outcome.the-variants.{Loop, Free}
-use Rattle.blocks.proofs.ClauseLaws.{guards-short, states-some, ranges}
+use Rattle.accepted.proofs.ClauseLaws.{guards-short, states-some}
+use Rattle.blocks.proofs.ClauseLaws.{ranges}
 
 -- there are 2 to the N configurations
 pub count-is : (b : List ℕ) (present : ℕ) (r : Cells) → CellsOf b present r → r .count ≡ name-count (class-of b) present

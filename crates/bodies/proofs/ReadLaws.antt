@@ -95,6 +95,10 @@ module _ (gs part : List ℕ) (p : Part) (R : Reads gs part p) where
       go (inl l) = let z : some end ≡ some p = sym (part-empty (R .depth) (R .classes) (R .states) gs part l) ∙ R .reads in cc
       go (inr l) = let (s, x, b) = begin Unknown e l in absurd (clash (cc))
 
+  -- a list with a record reads as a statement and others behind it
+  pub read-some : 8 ≤ length part → (s : Statement) × (q : Part) × (p ≡ (s then q))
+  read-some l = let (s, x, b) = begin (statement-record part) refl l in (s, b .rest, b .is)
+
   pub read-do : (m : ℕ) (c : Pattern) → Do m c ≡ statement-record part → Begins gs part (Do m c) p (send m (pattern-as c))
   read-do m c e =
       let (s, x, b) = begin (Do m c) e (told part (Do m c) e .0) in

@@ -89,6 +89,10 @@ module _ {A : Type 0} (P : A → Type 0) where
   every-mapped f [] a = tt
   every-mapped f (x ∷ xs) a = (a .0, every-mapped f xs (a .1))
 
+  pub every-map : {B : Type 0} (f : B → A) (xs : List B) → Every (λ x. P (f x)) xs → Every P (map f xs)
+  every-map f [] a = tt
+  every-map f (x ∷ xs) a = (a .0, every-map f xs (a .1))
+
   pub every-gathered : {B : Type 0} (Q : B → Type 0) (f : B → List A) → ((x : B) → Q x → Every P (f x)) → (xs : List B) → Every Q xs → Every P (gathered f xs)
   unfolding gathered
   every-gathered Q f h [] a = tt

@@ -26,7 +26,7 @@ pub record StateInside (K S : ℕ) (s : State) : Type 0 where
   pub actions : Every (ActionInside K S) (s .actions)
   pub none-twice : NoneTwice (s .actions)
 
-abbrev Low : Action → Type 0
+abbrev pub Low : Action → Type 0
 Low a = part-depth (a .body) ≤ 8
 
 abbrev guard-of : When → Guard

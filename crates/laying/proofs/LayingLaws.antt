@@ -1,18 +1,18 @@
 -- Laws of the loops that write: what is written so far.
 -- Assumes nothing.
-use Prim.Native.Nat.{ℕ, zero, suc, _+_, _-_, _*_, _/_, _%_, _<_, _≤_}
+use Prim.Native.Nat.{ℕ, suc, _+_, _-_, _*_, _/_, _%_, _<_, _≤_}
 use native.Mathlib.Omega.{arith}
 use native.Mathlib.Numerals.{add-one}
-use mathlib.Core.Path.{_≡_, refl, sym, _∙_, ap, subst}
+use mathlib.Core.Path.{_≡_, refl, sym, _∙_, ap}
 use mathlib.Core.Logic.{_⊎_, inl, inr}
 use mathlib.Core.List.{List, [], _∷_, _++_}
-use lib.ListN.{length, getD, take, drop, drop-of-length-le}
-use lib.Seq.{drop-cons, take-all, take-suc, length-sets}
+use lib.ListN.{length, getD, drop, drop-of-length-le}
+use lib.Seq.{drop-cons}
 use Rattle.model.specs.Words.{listed}
 use Rattle.model.proofs.Lists.{listed-more, length-listed}
 use Rattle.naming.specs.NameLists.{padded}
 use Rattle.pen.specs.Writing.{last-place, two, Puts}
-use Rattle.pen.proofs.Puts.{puts-none, puts-on, Writing, writing-more, writing-end}
+use Rattle.pen.proofs.Puts.{puts-none, puts-on, puts-length, Writing, writing-more, writing-end}
 use Rattle.records.specs.Bytes.{u32}
 use Rattle.lists.specs.Lent.{sets-in, Count}
 use Rattle.naming.specs.Naming.{joined}
@@ -20,19 +20,6 @@ use Rattle.words.specs.Scanning.{stretch}
 use Rattle.own.specs.Ahead.{names-from}
 use Rattle.own.specs.Held.{Here}
 use Rattle.laying.specs.Laying.{entry, contents-bytes, number-bytes, zeros-behind, sets-bytes, table-bytes}
-
--- the buffer keeps its length
-pub puts-length : {bytes before after : List ℕ} {at r : ℕ} → Puts bytes before at after r → length after ≡ length before
-puts-length {bytes} {before} {after} {at} p = ap length (p .buffer) ∙ length-sets before at bytes
-
--- one byte more of a string
-pub byte-more : (bytes before out after : List ℕ) (at end r i : ℕ) → Puts (take i bytes) before at out end → i < length bytes → Puts (getD bytes i 0 ∷ []) out end after r
-    → Puts (take (i + 1) bytes) before at after r
-byte-more bytes before out after at end r i p l q =
-    subst (λ (x : List ℕ). Puts x before at after r) (sym (rw (add-one i) (take-suc bytes i 0 l))) (puts-on p q)
-
-pub bytes-all : (bytes before out : List ℕ) (at end i : ℕ) → Puts (take i bytes) before at out end → length bytes ≤ i → Puts bytes before at out end
-bytes-all bytes before out at end i p h = subst (λ (x : List ℕ). Puts x before at out end) (take-all i bytes h) p
 
 -- zeros: those up to place i
 pub record Zeros (n : ℕ) (before : List ℕ) (at : ℕ) (out : List ℕ) (end i : ℕ) : Type 0 where

@@ -3,6 +3,7 @@ use lists::class_set;
 use lists::record_count;
 use own::Named;
 use own::next_named;
+use pen::put_bytes;
 use pen::put_one;
 use pen::put_two;
 ghost use mathlib.Core.Path.{_≡_};
@@ -73,19 +74,6 @@ pub fn put_name(out: &mut [u8], at: usize, name: &[u8]) -> usize
 {
     let end = put_bytes(out, at, name);
     put_zeros(out, end, name.len())
-}
-
-// Bytes, one behind the other.
-pub fn put_bytes(out: &mut [u8], at: usize, bytes: &[u8]) -> usize
-    ensures { λ r. ⌜ Puts (now (bytes .entry)) (now (out .entry)) at (now (out .exit)) r ⌝ }
-{
-    let mut end = at;
-    let mut i = 0;
-    while i < bytes.len() {
-        end = put_one(out, end, bytes[i]);
-        i = i + 1;
-    }
-    end
 }
 
 // Zeros behind the first n of 32 bytes.

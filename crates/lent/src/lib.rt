@@ -2,6 +2,7 @@
 use kinds::is_name;
 use kinds::is_same;
 use lists::class_set;
+use lists::name_length;
 use lists::name_record;
 use lists::record_count;
 use lists::record_is;
@@ -13,24 +14,10 @@ ghost use lib.ListN.{length};
 ghost use Rattle.model.specs.Words.{every, some-in};
 ghost use Rattle.grammar.specs.Words.{same};
 ghost use Rattle.naming.specs.NameLists.{record-right, records-in, none-twice, list-right, bits-named, lists-right};
-ghost use Rattle.lists.specs.Lent.{lent, name-record, sets-in, Characters, behind};
-
-// How many bytes of a record stand before the first zero.
-fn name_length(bytes: &[u8]) -> usize
-    ensures { λ r. ⌜ Characters (now (bytes .entry)) r ⌝ }
-{
-    let mut n = 0;
-    while n < bytes.len() {
-        if bytes[n] == 0 {
-            return n;
-        }
-        n = n + 1;
-    }
-    n
-}
+ghost use Rattle.lists.specs.Lent.{lent, name-record, sets-in, behind};
 
 // A record of 32 bytes is that of a name.
-fn record_right(bytes: &[u8]) -> bool
+pub fn record_right(bytes: &[u8]) -> bool
     requires { ⌜ length (now bytes) ≡ 32 ⌝ }
     ensures { λ r. ⌜ r ≡ record-right (now (bytes .entry)) ⌝ }
 {
@@ -89,7 +76,7 @@ fn all_differ(list: &[u8], size: usize) -> bool
 }
 
 // A list has whole records, each that of a name, and no name twice.
-fn list_right(list: &[u8], size: usize) -> bool
+pub fn list_right(list: &[u8], size: usize) -> bool
     requires { ⌜ 32 ≤ size ⌝ }
     ensures { λ r. ⌜ r ≡ list-right size (now (list .entry)) ⌝ }
 {
@@ -103,7 +90,7 @@ fn list_right(list: &[u8], size: usize) -> bool
 }
 
 // Every bit of a name set has a name, where there are that many names.
-fn bits_named(names: usize, set: u32) -> bool
+pub fn bits_named(names: usize, set: u32) -> bool
     ensures { λ r. ⌜ r ≡ bits-named names set ⌝ }
 {
     let mut i = 0;

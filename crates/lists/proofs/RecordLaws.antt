@@ -9,11 +9,11 @@ use mathlib.Core.Bool.{Bool, true, false, _&&_, _||_, not}
 use mathlib.Core.List.{List, [], _∷_, _++_, append-nil}
 use lib.Dec.{eqb, ltb, leb}
 use lib.ListN.{length, getD, take, drop, length-take, length-drop, length-append, take-append-drop, drop-of-length-le}
-use lib.Seq.{take-suc, drop-cons, drop-length, take-length, append-snoc, getD-take, getD-drop}
+use lib.Seq.{take-suc, drop-cons, append-snoc, getD-take, getD-drop}
 use borrow.Author.Tests.{eq-eqb, ne-eqb, lt-ltb, le-ltb, leb-true, leb-false}
-use Rattle.model.specs.Words.{choose, every, listed, each, has}
+use Rattle.model.specs.Words.{every, listed, each, has}
 use Rattle.model.proofs.Words.{clash, and-left, and-right, not-not-true, each-broken, each-all}
-use Rattle.model.proofs.Lists.{length-listed, getD-listed, getD-past}
+use Rattle.model.proofs.Lists.{getD-listed, getD-past}
 use Rattle.records.specs.Bytes.{u32}
 use Rattle.grammar.specs.Words.{same, is-name}
 use Rattle.grammar.proofs.Words.{same-length}
@@ -179,10 +179,12 @@ pub entries : (b : List ℕ) (size n : ℕ) → Count b size n → records-in si
 unfolding records-in
 entries b size n k = rw (k .is) (left-all (name-record size b) (length b / size))
 
+-- the characters, as the code cuts them off
+pub front-is : (r : List ℕ) (n : ℕ) → Characters r n → take (n - 0) (drop 0 r) ≡ characters r
+front-is r n k = ap (λ (m : ℕ). take m r) (let z : n - 0 ≡ n = omega arith in z) ∙ k .whole
+
 -- a record is that of the name that its characters are
 pub right-told : (r : List ℕ) (n : ℕ) → Characters r n → (x y : Bool) → x ≡ is-name (take (n - 0) (drop 0 r)) → y ≡ same r (padded (take (n - 0) (drop 0 r)))
     → (x && y) ≡ record-right r
 unfolding record-right
-right-told r n k x y e f =
-    let p : take (n - 0) (drop 0 r) ≡ characters r = ap (λ (m : ℕ). take m r) (let z : n - 0 ≡ n = omega arith in z) ∙ k .whole in
-    rw (e, f, p)
+right-told r n k x y e f = rw (e, f, front-is r n k)

@@ -7,7 +7,7 @@ ghost use Prim.Native.Nat.{_≤_, _<_, _/_};
 ghost use lib.ListN.{length, getD, drop};
 ghost use Rattle.grammar.specs.Words.{same};
 ghost use Rattle.naming.specs.NameLists.{padded, records-in};
-ghost use Rattle.lists.specs.Lent.{name-record, found-from, sets-in, all-zero, Count};
+ghost use Rattle.lists.specs.Lent.{name-record, found-from, sets-in, all-zero, Characters, Count};
 
 // The number of a name in a list, or that it has none.
 pub enum Found {
@@ -61,6 +61,20 @@ pub fn name_record(list: &[u8], size: usize, i: usize) -> &[u8]
     let from = i * size;
     let to = from + 32;
     &list[from..to]
+}
+
+// How many bytes of a record stand before the first zero.
+pub fn name_length(bytes: &[u8]) -> usize
+    ensures { λ r. ⌜ Characters (now (bytes .entry)) r ⌝ }
+{
+    let mut n = 0;
+    while n < bytes.len() {
+        if bytes[n] == 0 {
+            return n;
+        }
+        n = n + 1;
+    }
+    n
 }
 
 // The name set of child class i; none past the end of the list.

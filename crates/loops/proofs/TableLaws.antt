@@ -28,7 +28,7 @@ use Rattle.model.specs.declared.Ending.{Ending}
 use Rattle.phases.specs.Phases.{Turns}
 use Rattle.phases.specs.declared.Turn.the-variants.{Stops, Moves}
 use Rattle.phases.specs.declared.Turned.{Turned}
-use Rattle.blocks.proofs.ClauseLaws.{states-few, states-are}
+use Rattle.accepted.proofs.ClauseLaws.{states-few, states-are}
 use Rattle.loops.specs.Chase.{leads, table-next, MovesTo, Tabulates}
 use Rattle.loops.proofs.WalkLaws.{leads-there}
 

@@ -31,6 +31,19 @@ pub fn put_one(out: &mut [u8], at: usize, byte: u8) -> usize
     next_place(at)
 }
 
+// Bytes, one behind the other.
+pub fn put_bytes(out: &mut [u8], at: usize, bytes: &[u8]) -> usize
+    ensures { λ r. ⌜ Puts (now (bytes .entry)) (now (out .entry)) at (now (out .exit)) r ⌝ }
+{
+    let mut end = at;
+    let mut i = 0;
+    while i < bytes.len() {
+        end = put_one(out, end, bytes[i]);
+        i = i + 1;
+    }
+    end
+}
+
 // A number in two bytes, low byte first; what two bytes do not hold of it is lost.
 pub fn put_two(out: &mut [u8], at: usize, n: usize) -> usize
     ensures { λ r. ⌜ Puts (two n) (now (out .entry)) at (now (out .exit)) r ⌝ }

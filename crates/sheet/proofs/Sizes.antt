@@ -11,7 +11,7 @@ use borrow.Author.Tests.{eqb-true}
 use Rattle.model.specs.Words.{maybe, listed, total}
 use Rattle.model.specs.Tree.{Part, end, Action, State}
 use Rattle.model.specs.Node.{state-of}
-use Rattle.model.proofs.Words.{and-right}
+use Rattle.model.proofs.Words.{and-left, and-right}
 use Rattle.model.proofs.RunLaws.{part-size}
 use Rattle.model.proofs.PhaseSize.{actions-size, class-size, total-same}
 use Rattle.records.specs.Bytes.{in-fours, in-eights}
@@ -48,15 +48,21 @@ module _ (f : ℕ → Action) (w : ℕ → ℕ) (few : (a : ℕ) → part-size (
   states-few count (suc n) = omega (arith, states-few count n, listed-few (total n count) (count n) (total n count + count n) refl)
 
 module _ (s : Bodies) (r : BodiesRight s) where
-  -- the states list all action clauses, by rule 4
-  all-actions : count-sum (s .states) 2 (in-fours (s .states)) ≡ in-fours (s .actions)
+  -- the states list all when clauses and all action clauses, by rule 4
+  pub all-whens : count-sum (s .states) 0 (in-fours (s .states)) ≡ in-fours (s .whens)
+  unfolding counts-right
+  all-whens =
+      eqb-true (count-sum (s .states) 0 (in-fours (s .states))) (in-fours (s .whens))
+      (and-left (eqb (count-sum (s .states) 0 (in-fours (s .states))) (in-fours (s .whens))) (eqb (count-sum (s .states) 2 (in-fours (s .states))) (in-fours (s .actions))) (r .counts))
+
+  pub all-actions : count-sum (s .states) 2 (in-fours (s .states)) ≡ in-fours (s .actions)
   unfolding counts-right
   all-actions =
       eqb-true (count-sum (s .states) 2 (in-fours (s .states))) (in-fours (s .actions))
       (and-right (eqb (count-sum (s .states) 0 (in-fours (s .states))) (in-fours (s .whens))) (eqb (count-sum (s .states) 2 (in-fours (s .states))) (in-fours (s .actions))) (r .counts))
 
   -- and the action clauses count all statements, by rule 8
-  all-statements : count-sum (s .actions) 2 (in-fours (s .actions)) ≡ in-eights (s .statements)
+  pub all-statements : count-sum (s .actions) 2 (in-fours (s .actions)) ≡ in-eights (s .statements)
   unfolding actions-right
   all-statements =
       let sums = eqb (count-sum (s .actions) 2 (in-fours (s .actions))) (in-eights (s .statements)) in

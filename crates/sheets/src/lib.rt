@@ -1,9 +1,9 @@
 // The sheet of a text, written body by body into a lent buffer.
 use clauses::write_actions;
 use clauses::write_states;
-use laying::put_bytes;
 use laying::write_classes;
 use laying::write_contents;
+use pen::put_bytes;
 use sizes::Sizes;
 use statements::write_statements;
 use whens::write_whens;

@@ -1,13 +1,8 @@
-use Rattle.laying.proofs.LayingLaws.{entry-all, puts-length}
-use Prim.Native.Nat.{ℕ, _+_, _-_, _<_, _≤_}
-use native.Mathlib.Omega.{arith}
-use mathlib.Core.Path.{_≡_, refl, sym, _∙_, ap}
+use Rattle.laying.proofs.LayingLaws.{entry-all}
+use Prim.Native.Nat.{_-_}
 use borrow.Author.Needs.{needs}
 use Rattle.laying.proofs.put_entry.Statement.{statement}
 use Rattle.laying.proofs.put_entry.Tie as tie
-use Rattle.laying.proofs.put_entry.Reads as reads
-use Rattle.laying.proofs.put_entry.Lts as lts
-use Rattle.pen.proofs.put_two.Reads as put-two-reads
 
 put-two-requires : tie.Need-put-two-requires
 put-two-requires c κs = search needs

@@ -1,14 +1,8 @@
 use Rattle.laying.proofs.LayingLaws.{name-all}
-use Prim.Native.Nat.{ℕ, _+_, _-_, _<_, _≤_}
-use native.Mathlib.Omega.{arith}
-use mathlib.Core.Path.{_≡_, refl, sym, _∙_, ap}
+use Prim.Native.Nat.{_-_}
 use borrow.Author.Needs.{needs}
 use Rattle.laying.proofs.put_name.Statement.{statement}
 use Rattle.laying.proofs.put_name.Tie as tie
-use Rattle.laying.proofs.put_name.Reads as reads
-use Rattle.laying.proofs.put_name.Lts as lts
-use Rattle.laying.proofs.put_bytes.Reads as put-bytes-reads
-use Rattle.laying.proofs.put_zeros.Reads as put-zeros-reads
 
 put-bytes-requires : tie.Need-put-bytes-requires
 put-bytes-requires c κs = search needs

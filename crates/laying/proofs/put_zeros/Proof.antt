@@ -1,13 +1,10 @@
-use Rattle.laying.proofs.LayingLaws.{Zeros, zeros-none, zero-more, zeros-all, puts-length}
-use Prim.Native.Nat.{ℕ, _+_, _-_, _<_, _≤_}
+use Rattle.laying.proofs.LayingLaws.{Zeros, zeros-none, zero-more, zeros-all}
+use Rattle.pen.proofs.Puts.{puts-length}
+use Prim.Native.Nat.{_-_}
 use native.Mathlib.Omega.{arith}
-use mathlib.Core.Path.{_≡_, refl, sym, _∙_, ap}
 use borrow.Author.Needs.{needs}
 use Rattle.laying.proofs.put_zeros.Statement.{statement}
 use Rattle.laying.proofs.put_zeros.Tie as tie
-use Rattle.laying.proofs.put_zeros.Reads as reads
-use Rattle.laying.proofs.put_zeros.Lts as lts
-use Rattle.pen.proofs.put_one.Reads as put-one-reads
 
 abbrev Inv-loop : tie.InvT-loop
 Inv-loop out₀ at n end₀ i₀ out end i = Zeros n out₀ at out end i

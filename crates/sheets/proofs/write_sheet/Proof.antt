@@ -1,20 +1,8 @@
 use Rattle.sheets.proofs.Assembling.{sheet-written}
-use Prim.Native.Nat.{ℕ, _+_, _-_, _<_, _≤_}
-use native.Mathlib.Omega.{arith}
-use mathlib.Core.Path.{_≡_, refl, sym, _∙_, ap}
+use Prim.Native.Nat.{_-_}
 use borrow.Author.Needs.{needs}
 use Rattle.sheets.proofs.write_sheet.Statement.{statement}
 use Rattle.sheets.proofs.write_sheet.Tie as tie
-use Rattle.sheets.proofs.write_sheet.Reads as reads
-use Rattle.sheets.proofs.write_sheet.Lts as lts
-use Rattle.clauses.proofs.write_actions.Reads as write-actions-reads
-use Rattle.clauses.proofs.write_states.Reads as write-states-reads
-use Rattle.laying.proofs.put_bytes.Reads as put-bytes-reads
-use Rattle.laying.proofs.write_classes.Reads as write-classes-reads
-use Rattle.laying.proofs.write_contents.Reads as write-contents-reads
-use Rattle.sheets.proofs.body_sizes.Reads as body-sizes-reads
-use Rattle.statements.proofs.write_statements.Reads as write-statements-reads
-use Rattle.whens.proofs.write_whens.Reads as write-whens-reads
 
 body-sizes-requires : tie.Need-body-sizes-requires
 body-sizes-requires c κs = search needs

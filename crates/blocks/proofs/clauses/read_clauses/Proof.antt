@@ -7,7 +7,8 @@ use mathlib.Core.Path.{ap}
 use Rattle.records.specs.Bytes.{in-fours}
 use Rattle.sheet.specs.Contents.{body}
 use Rattle.blocks.specs.ClauseTables.{FirstsOf, WhensOf}
-use Rattle.blocks.proofs.ClauseLaws.{whens-start, state-read, firsts-of, states-few, actions-few, state-lent, read-all}
+use Rattle.accepted.proofs.ClauseLaws.{states-few, actions-few}
+use Rattle.blocks.proofs.ClauseLaws.{whens-start, state-read, firsts-of, state-lent, read-all}
 use Rattle.blocks.proofs.clauses.read_clauses.Statement.{statement}
 use Rattle.blocks.proofs.clauses.read_clauses.Tie as tie
 

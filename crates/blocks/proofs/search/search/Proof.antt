@@ -5,7 +5,7 @@ use native.Mathlib.Omega.{arith}
 use mathlib.Core.Path.{ap}
 use lib.ListN.{length}
 use Rattle.blocks.specs.Search.{TablesOf}
-use Rattle.blocks.proofs.ClauseLaws.{guards-short}
+use Rattle.accepted.proofs.ClauseLaws.{guards-short}
 use Rattle.blocks.proofs.SearchLaws.{count-is, tables-of, ready}
 use Rattle.blocks.proofs.search.search.Statement.{statement}
 use Rattle.blocks.proofs.search.search.Tie as tie

@@ -3,7 +3,7 @@
 use borrow.Author.Needs.{needs}
 use native.Mathlib.Omega.{arith}
 use mathlib.Core.Path.{sym, _∙_}
-use Rattle.blocks.proofs.ClauseLaws.{states-are}
+use Rattle.accepted.proofs.ClauseLaws.{states-are}
 use Rattle.loops.proofs.SpreadLaws.{crewed}
 use Rattle.loops.proofs.ListLaws.{list-read, list-runs}
 use Rattle.loops.proofs.WalkLaws.{state-told}

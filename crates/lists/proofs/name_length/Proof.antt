@@ -2,10 +2,10 @@
 -- Assumes nothing.
 use Prim.Native.Nat.{_-_}
 use lib.ListN.{length}
 use Rattle.lists.proofs.RecordLaws.{Reading, reading-none, reading-on, reading-found, reading-over}
 use borrow.Author.Needs.{needs}
-use Rattle.lent.proofs.name_length.Statement.{statement}
-use Rattle.lent.proofs.name_length.Tie as tie
+use Rattle.lists.proofs.name_length.Statement.{statement}
+use Rattle.lists.proofs.name_length.Tie as tie
 
 abbrev Inv-loop : tie.InvT-loop
 Inv-loop bytes n₀ n = Reading bytes n
