@@ -1,0 +1,6 @@
+pub mod Guards
+pub mod Parts
+pub mod States
+pub mod Counts
+pub mod Judged
+pub mod Examples

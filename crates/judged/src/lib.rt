@@ -1,0 +1,1 @@
+// What an accepted sheet says of the class that it stands for. Definitions and theorems alone.
