@@ -1,0 +1,15 @@
+pub mod Cutting
+pub mod Wordings
+pub mod RightLists
+pub mod Nameable
+pub mod Sets
+pub mod TreeRows
+pub mod Guards
+pub mod Clauses
+pub mod OwnNames
+pub mod ClassBack
+pub mod KnownBack
+pub mod Sizes
+pub mod TextSize
+pub mod Back
+pub mod Examples
