@@ -6,12 +6,13 @@ use Rattle.bargewicker.specs.Questions.{placed, reply-command, reply}
 use Rattle.bargewicker.specs.Numbers.{values}
 use Rattle.bargewicker.specs.Placing.{placed-refusal}
 use Rattle.bargewicker.specs.Cases.{given}
-use Rattle.bargewicker.specs.Table.{first-failed, body-checks, sheet-checks, place-checks, phase-checks, command-checks, loop-checks, table}
+use Rattle.bargewicker.specs.Table.{first-failed, body-checks, sheet-checks, place-checks, phase-checks, command-checks, loop-checks, text-checks, table}
 use Rattle.model.proofs.Computing.{computing as computing-model}
 use Rattle.sheet.proofs.Computing.{computing as computing-sheet}
 use Rattle.children.proofs.Computing.{computing as computing-children}
 use Rattle.loops.proofs.Computing.{computing as computing-loops}
+use Rattle.writings.proofs.Computing.{computing as computing-writings}
 
 unfoldable pub computing : Unit {0}
-unfolding placed bytes-of-phase reply-phase phasing-values bytes-of-handling reply-handling reply-command reply handling-values values placed-refusal given first-failed body-checks sheet-checks place-checks phase-checks command-checks loop-checks table computing-model computing-sheet computing-children computing-loops
+unfolding placed bytes-of-phase reply-phase phasing-values bytes-of-handling reply-handling reply-command reply handling-values values placed-refusal given first-failed body-checks sheet-checks place-checks phase-checks command-checks loop-checks text-checks table computing-model computing-sheet computing-children computing-loops computing-writings
 computing = tt

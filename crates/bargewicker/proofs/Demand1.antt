@@ -1,4 +1,4 @@
--- Demand 1: what is refused, with which number, and that a refusal writes nothing, for all five questions at once.
+-- Demand 1: what is refused, with which number, and that a refusal writes nothing, for all six questions at once.
 -- Assumes nothing.
 use Prim.Native.Nat.{ℕ}
 use mathlib.Core.Path.{_≡_, refl, sym, _∙_, ap}
@@ -16,8 +16,9 @@ use Rattle.model.specs.declared.ProbeAnswer.the-variants as P
 use Rattle.model.specs.declared.PhaseAnswer.the-variants as W
 use Rattle.model.specs.declared.CommandAnswer.the-variants as C
 use Rattle.model.specs.declared.LoopAnswer.the-variants as L
+use Rattle.model.specs.declared.WriteAnswer.the-variants as T
 use Rattle.model.proofs.RefusalLaws.{not-zero}
-use Rattle.bargewicker.specs.Questions.{Question, judge, probe-in, phase-from, command-in, loop-with, Answer, reply, lent}
+use Rattle.bargewicker.specs.Questions.{Question, judge, probe-in, phase-from, command-in, loop-with, text-of, Answer, reply, lent}
 use Rattle.bargewicker.specs.Numbers.{values}
 use Rattle.bargewicker.specs.Promises.{AnswerTo, refusing, numbers-of, Promised}
 use Rattle.bargewicker.specs.Table.{first-failed, table}
@@ -42,6 +43,8 @@ no-refusal (command-in b l q m out) (C.Refused x) h = absurd (h x refl)
 no-refusal (command-in b l q m out) (C.Given p) h = refl
 no-refusal (loop-with b present out) (L.Refused x) h = absurd (h x refl)
 no-refusal (loop-with b present out) (L.Given p) h = refl
+no-refusal (text-of b n out) (T.Refused x) h = absurd (h x refl)
+no-refusal (text-of b n out) (T.Written m) h = refl
 
 -- a reply begins with its refusal
 reply-first : (p : Reply Answer) → first (numbers values p) ≡ refused-number p

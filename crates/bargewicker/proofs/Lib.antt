@@ -8,5 +8,7 @@ pub mod Unique
 pub mod Demand1
 pub mod Demand2
 pub mod Demand3
+pub mod TextRight
+pub mod WrittenBack
 pub mod Demands
 pub mod AnswerBounds

@@ -7,7 +7,7 @@ use Rattle.model.specs.Tree.{Class}
 use Rattle.model.specs.Node.{probe, phase}
 use Rattle.model.specs.Refusals.{number-of}
 use Rattle.model.specs.Values.{probed-values}
-use Rattle.model.specs.Answers.{probed-as, phase-numbers, command-numbers, loop-numbers}
+use Rattle.model.specs.Answers.{probed-as, phase-numbers, command-numbers, loop-numbers, write-numbers}
 use Rattle.model.specs.Replies.{Reply, refuse, give, told-as, Answered}
 use Rattle.model.specs.Node as Node
 use Rattle.model.specs.Commands as Tree
@@ -21,6 +21,7 @@ use Rattle.model.specs.declared.Refusal.the-variants.{AskedCommand}
 use Rattle.model.specs.declared.CommandAnswer.{CommandAnswer}
 use Rattle.model.specs.declared.CommandAnswer.the-variants as C
 use Rattle.model.specs.declared.LoopAnswer.{LoopAnswer}
+use Rattle.model.specs.declared.WriteAnswer.{WriteAnswer}
 use Rattle.model.proofs.ReplyLaws.{answered, answered-by, answered-as}
 use Rattle.sheet.specs.Rules.{Accepted}
 use Rattle.sheet.specs.Reading.{class-of}
@@ -31,7 +32,9 @@ use Rattle.commands.proofs.HandlingLaws.{HandledSo}
 use Rattle.phases.specs.Phasing.{reply-phase, phasing-values}
 use Rattle.phases.proofs.PhasingLaws.{PhasedSo}
 use Rattle.loops.specs.LoopQuestion.{loops-values, reply-loop}
-use Rattle.bargewicker.specs.Questions.{Question, judge, probe-in, phase-from, command-in, loop-with, Answer, accepted, probed, phased, commanded, looped, placed, reply-command, reply, lent}
+use Rattle.writings.specs.Layout.{Named}
+use Rattle.writings.specs.Writings.{reply-text, text-values}
+use Rattle.bargewicker.specs.Questions.{Question, judge, probe-in, phase-from, command-in, loop-with, text-of, Answer, accepted, probed, phased, commanded, looped, wrote, placed, reply-command, reply, lent}
 use Rattle.bargewicker.specs.Numbers.{values}
 use Rattle.bargewicker.specs.Promises.{refusing, numbers-of, Promised}
 use Rattle.bargewicker.proofs.QuestionLaws.{command-over, command-taken}
@@ -43,6 +46,7 @@ refusing-numbers (probe-in b l q) x = refl
 refusing-numbers (phase-from b l q out) x = refl
 refusing-numbers (command-in b l q m out) x = refl
 refusing-numbers (loop-with b present out) x = refl
+refusing-numbers (text-of b n out) x = refl
 
 -- a refusal, with the buffer as it was, is promised where the rules refuse
 pub refused-so : (q : Question) (x : Refusal) → reply q ≡ refuse (number-of x) → (after : List ℕ) → after ≡ lent q → Promised q (refusing q x) after
@@ -91,3 +95,10 @@ pub looped-so : (b : List ℕ) (present : ℕ) (out : List ℕ) → Accepted b �
 unfolding reply values
 looped-so b present out a r after h =
     rw (asked b (λ c. told-as looped (reply-loop c present out)) a) (answered-as looped loops-values values (λ _. refl) (reply-loop (class-of b) present out) out (loop-numbers r) after h)
+
+-- the answer to a text that is asked for, on the class of an accepted sheet
+pub wrote-so : (b : List ℕ) (n : Named) (out : List ℕ) → Accepted b → (r : WriteAnswer) (after : List ℕ)
+    → Answered text-values (reply-text n (class-of b) out) out (write-numbers r) after → Promised (text-of b n out) r after
+unfolding reply values
+wrote-so b n out a r after h =
+    rw (asked b (λ c. told-as wrote (reply-text n c out)) a) (answered-as wrote text-values values (λ _. refl) (reply-text n (class-of b) out) out (write-numbers r) after h)

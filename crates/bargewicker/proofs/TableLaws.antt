@@ -24,8 +24,11 @@ use Rattle.configurations.specs.LoopAnswer.{Loops, loop-answer}
 use Rattle.commands.specs.Handling.{bytes-of-handling, reply-handling}
 use Rattle.phases.specs.Phasing.{bytes-of-phase, reply-phase}
 use Rattle.loops.specs.LoopQuestion.{present-right, bytes-of-loops, reply-loop}
-use Rattle.bargewicker.specs.Questions.{Question, judge, probe-in, phase-from, command-in, loop-with, phased, commanded, looped, placed, reply, reply-command}
-use Rattle.bargewicker.specs.Table.{Check, rule, first-failed, body-checks, sheet-checks, place-checks, phase-checks, sent-by, command-checks, loop-checks, table}
+use Rattle.writings.specs.Layout.{Named, class-text}
+use Rattle.writings.specs.Missing.{names-right}
+use Rattle.writings.specs.Writings.{guards-few, reply-text}
+use Rattle.bargewicker.specs.Questions.{Question, judge, probe-in, phase-from, command-in, loop-with, text-of, phased, commanded, looped, wrote, placed, reply, reply-command}
+use Rattle.bargewicker.specs.Table.{Check, rule, first-failed, body-checks, sheet-checks, place-checks, phase-checks, sent-by, command-checks, loop-checks, text-checks, table}
 
 -- the number of a refusal, 0 of an answer
 abbrev pub refused-number : {A : Type 0} → Reply A → ℕ
@@ -125,6 +128,18 @@ loop-failed c present out =
     go true false v a bytes = refl
     go false u v a bytes = refl
 
+-- 17, 19 and 15
+text-failed : (n : Named) (c : Class) (out : List ℕ) → refused-number (reply-text n c out) ≡ first-failed (text-checks n c out)
+unfolding reply-text text-checks first-failed
+text-failed n c out = go (names-right n c) (guards-few c) (leb (length (class-text n c)) (length out)) (length (class-text n c)) (class-text n c)
+  where
+    go : (t u v : Bool) (a : ℕ) (bytes : List ℕ) → refused-number (check t 17 (λ _. check u 19 (λ _. check v 15 (λ _. give a bytes))))
+        ≡ first-failed (rule 17 t ∷ rule 19 u ∷ rule 15 v ∷ [])
+    go true true true a bytes = refl
+    go true true false a bytes = refl
+    go true false v a bytes = refl
+    go false u v a bytes = refl
+
 -- whatever is asked
 pub failed : (q : Question) → refused-number (reply q) ≡ first-failed (table q)
 unfolding reply table sheet-checks body-checks place-checks phase-checks first-failed
@@ -135,3 +150,4 @@ failed (phase-from b l q out) =
     placed-failed b l q _ (phase-checks (class-of b) l q out) (told-failed phased (reply-phase p out) ∙ phase-failed p out)
 failed (command-in b l q m out) = placed-failed b l q _ (command-checks (class-of b) l q m out) (told-failed commanded (reply-command (class-of b) l q m out) ∙ command-failed (class-of b) l q m out)
 failed (loop-with b present out) = asked-failed b _ (loop-checks (class-of b) present out) (told-failed looped (reply-loop (class-of b) present out) ∙ loop-failed (class-of b) present out)
+failed (text-of b n out) = asked-failed b _ (text-checks n (class-of b) out) (told-failed wrote (reply-text n (class-of b) out) ∙ text-failed n (class-of b) out)

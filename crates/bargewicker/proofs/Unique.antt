@@ -1,8 +1,8 @@
 -- The promises of the face leave one answer, and one content of a lent buffer.
 -- Assumes nothing.
 use mathlib.Core.Path.{_≡_, sym, _∙_, ap}
-use Rattle.model.proofs.AnswerLaws.{same-judge, same-probe, same-phase-answer, same-command, same-loop}
-use Rattle.bargewicker.specs.Questions.{Question, judge, probe-in, phase-from, command-in, loop-with}
+use Rattle.model.proofs.AnswerLaws.{same-judge, same-probe, same-phase-answer, same-command, same-loop, same-write}
+use Rattle.bargewicker.specs.Questions.{Question, judge, probe-in, phase-from, command-in, loop-with, text-of}
 use Rattle.bargewicker.specs.Promises.{AnswerTo, numbers-of}
 use Rattle.bargewicker.specs.Unique.{Unique}
 use Rattle.model.proofs.Words.{clash}
@@ -19,9 +19,10 @@ told-apart (probe-in b l q) r s e = same-probe r s e
 told-apart (phase-from b l q out) r s e = same-phase-answer r s e
 told-apart (command-in b l q m out) r s e = same-command r s e
 told-apart (loop-with b present out) r s e = same-loop r s e
+told-apart (text-of b n out) r s e = same-write r s e
 
 -- what an answer to a class text says tells it
-reading-told : (r s : ReadAnswer) → reading-as r ≡ reading-as s → r ≡ s
+pub reading-told : (r s : ReadAnswer) → reading-as r ≡ reading-as s → r ≡ s
 reading-told (R.Refused x) (R.Refused y) e = ap R.Refused (same-number x y (cc))
 reading-told (R.Refused x) (R.WrongWord q) e = absurd (clash (cc))
 reading-told (R.Refused x) (R.Read l n) e = absurd (clash (cc))

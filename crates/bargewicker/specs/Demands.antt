@@ -41,15 +41,21 @@ use Rattle.children.specs.ChildList.{children-of, list-right, pairs, sent-bytes
 use Rattle.configurations.specs.Configurations.{name-count}
 use Rattle.configurations.specs.Demand.{AllEnd, FreeRight, LoopRight}
 use Rattle.loops.specs.LoopQuestion.{present-right}
+use Rattle.model.specs.declared.WriteAnswer.{WriteAnswer}
+use Rattle.model.specs.declared.WriteAnswer.the-variants as T
 use Rattle.model.specs.declared.ReadAnswer.{ReadAnswer}
 use Rattle.model.specs.declared.ReadAnswer.the-variants as R
 use Rattle.grammar.specs.Grammar.{Text}
 use Rattle.readings.specs.Readings.{Lent}
 use Rattle.readings.specs.Reads.{Rows, ReadRight}
 use Rattle.readings.specs.Promise.{came, Answered}
-use Rattle.bargewicker.specs.Questions.{Question, judge, probe-in, phase-from, command-in, loop-with, lent}
+use Rattle.writings.specs.Layout.{Named, class-text}
+use Rattle.writings.specs.Missing.{names-right}
+use Rattle.writings.specs.Writings.{guards-few}
+use Rattle.bargewicker.specs.Questions.{Question, judge, probe-in, phase-from, command-in, loop-with, text-of, lent}
 use Rattle.bargewicker.specs.Promises.{AnswerTo, refusing, Promised}
 use Rattle.bargewicker.specs.Table.{table, first-failed}
+use Rattle.bargewicker.specs.WrittenBack.{WrittenBack}
 
 -- DEMAND 1, of an answer r to the question q, and of the lent buffer after the call
 pub record Demand1 (q : Question) (r : AnswerTo q) (final : List ℕ) : Type 0 where
@@ -167,6 +173,12 @@ pub record AskedLoop (b : List ℕ) (present : ℕ) (out : List ℕ) : Type 0 wh
   pub names : name-count (class-of b) present ≤ 20
   pub room : 2 * name-count (class-of b) present ≤ length out
 
+-- the text of the class c with its names, m bytes, is written at the front of the buffer; or nothing is, and why is said by demand 1
+abbrev pub TextRight : Named → Class → List ℕ → List ℕ → WriteAnswer → Type 0
+TextRight n c out final (T.Written m) =
+    (names-right n c ≡ true) × (guards-few c ≡ true) × (m ≡ length (class-text n c)) × (m ≤ length out) × (final ≡ written (class-text n c) out)
+TextRight n c out final (T.Refused x) = final ≡ out
+
 -- THE DEMANDS, of any answer r and any content `final` of the lent buffer after the call that meet the promise
 pub record Demands : Type 1 where
   -- 1: every byte string offered as a class sheet, child list or request; "accepted" is said exactly of the sheets
@@ -179,6 +191,10 @@ pub record Demands : Type 1 where
   pub reading : (q : Lent) (r : ReadAnswer) (sheet table : List ℕ) → Answered q r sheet table → Rows q (came r sheet table)
   pub read : (q : Lent) (length states : ℕ) (sheet table : List ℕ) → Bytes (q .lists .classes) → Answered q (R.Read length states) sheet table
       → (t : Text) × ReadRight q (came (R.Read length states) sheet table) length states t
+  -- and every class text that is written: what stands in the buffer, and what follows of it (specs/WrittenBack.antt)
+  pub writing : (b : List ℕ) (n : Named) (out : List ℕ) → Accepted b → (r : WriteAnswer) (final : List ℕ)
+      → Promised (text-of b n out) r final → TextRight n (class-of b) out final r
+  pub written-back : WrittenBack
   -- 2: probing, the when phase and the handling of a command, for every accepted sheet, state, child list and command
   pub probing : (b l : List ℕ) (q : ℕ) → Asked b l q → (r : ProbeAnswer) (final : List ℕ)
       → Promised (probe-in b l q) r final → ProbeRight (class-of b) (children-of l) q r

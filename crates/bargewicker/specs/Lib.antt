@@ -4,5 +4,6 @@ pub mod Placing
 pub mod Promises
 pub mod Cases
 pub mod Table
+pub mod WrittenBack
 pub mod Demands
 pub mod Unique

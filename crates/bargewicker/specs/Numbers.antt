@@ -7,7 +7,8 @@ use Rattle.model.specs.Replies.{numbers}
 use Rattle.commands.specs.Handling.{handling-values}
 use Rattle.phases.specs.Phasing.{phasing-values}
 use Rattle.loops.specs.LoopQuestion.{loops-values}
-use Rattle.bargewicker.specs.Questions.{Question, Answer, accepted, probed, phased, commanded, looped, reply}
+use Rattle.writings.specs.Writings.{text-values}
+use Rattle.bargewicker.specs.Questions.{Question, Answer, accepted, probed, phased, commanded, looped, wrote, reply}
 
 unfoldable pub values : Answer → List ℕ
 values accepted = []
@@ -15,6 +16,7 @@ values (probed p) = probed-values p
 values (phased p) = phasing-values p
 values (commanded h) = handling-values h
 values (looped a) = loops-values a
+values (wrote n) = text-values n
 
 abbrev pub numbers-for : Question → List ℕ
 numbers-for q = numbers values (reply q)

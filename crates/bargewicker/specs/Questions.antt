@@ -1,4 +1,4 @@
--- The five questions over bytes: which refusal or answer each gets, and what its lent buffer holds afterwards.
+-- The six questions on a sheet, over bytes: which refusal or answer each gets, and what its lent buffer holds afterwards.
 -- Assumes nothing.
 use Prim.Native.Nat.{ℕ}
 use mathlib.Core.List.{List, []}
@@ -13,14 +13,17 @@ use Rattle.commands.specs.Handling.{reply-handling}
 use Rattle.phases.specs.Phasing.{reply-phase}
 use Rattle.configurations.specs.LoopAnswer.{Loops}
 use Rattle.loops.specs.LoopQuestion.{reply-loop}
+use Rattle.writings.specs.Layout.{Named}
+use Rattle.writings.specs.Writings.{reply-text}
 
--- a sheet; beside it the child list, the asked state, the asked command, the present classes, the lent buffer
+-- a sheet; beside it the child list, the asked state, the asked command, the present classes, the names, the lent buffer
 pub data Question : Type 0 where
   judge : List ℕ → Question
   probe-in : List ℕ → List ℕ → ℕ → Question
   phase-from : List ℕ → List ℕ → ℕ → List ℕ → Question
   command-in : List ℕ → List ℕ → ℕ → ℕ → List ℕ → Question
   loop-with : List ℕ → ℕ → List ℕ → Question
+  text-of : List ℕ → Named → List ℕ → Question
 
 pub data Answer : Type 0 where
   accepted : Answer
@@ -28,6 +31,7 @@ pub data Answer : Type 0 where
   phased : Phase → Answer
   commanded : Handling → Answer
   looped : Loops → Answer
+  wrote : ℕ → Answer
 
 -- 10 and 11: the child list and the asked state, behind the sheet's own refusals
 unfoldable pub placed : {A : Type 0} → List ℕ → List ℕ → ℕ → (Class → Reply A) → Reply A
@@ -43,6 +47,7 @@ reply (probe-in b l q) = placed b l q λ c. give (probed (probe c (children-of l
 reply (phase-from b l q out) = placed b l q λ c. told-as phased (reply-phase (phase c (children-of l) q) out)
 reply (command-in b l q m out) = placed b l q λ c. told-as commanded (reply-command c l q m out)
 reply (loop-with b present out) = on-sheet b λ c. told-as looped (reply-loop c present out)
+reply (text-of b n out) = on-sheet b λ c. told-as wrote (reply-text n c out)
 
 -- the lent buffer before the call; none is lent to the judge and the probe
 abbrev pub lent : Question → List ℕ
@@ -51,3 +56,4 @@ lent (probe-in b l q) = []
 lent (phase-from b l q out) = out
 lent (command-in b l q m out) = out
 lent (loop-with b present out) = out
+lent (text-of b n out) = out

@@ -18,7 +18,10 @@ use Rattle.sheet.specs.Reading.{class-of}
 use Rattle.children.specs.ChildList.{children-of, list-right}
 use Rattle.configurations.specs.Configurations.{name-count}
 use Rattle.loops.specs.LoopQuestion.{present-right}
-use Rattle.bargewicker.specs.Questions.{Question, judge, probe-in, phase-from, command-in, loop-with}
+use Rattle.writings.specs.Layout.{Named, class-text}
+use Rattle.writings.specs.Missing.{names-right}
+use Rattle.writings.specs.Writings.{guards-few}
+use Rattle.bargewicker.specs.Questions.{Question, judge, probe-in, phase-from, command-in, loop-with, text-of}
 
 -- a check: its number in the table, and whether the input passes it
 pub record Check : Type 0 where
@@ -96,6 +99,17 @@ loop-checks c present out =
     -- given when: buffer too short: under 2N bytes
     rule 15 (leb (2 * name-count c present) (length out)) ∷ []
 
+-- the names that the text is written with, the guard records that it would have, and the room for it
+unfoldable pub text-checks : Named → Class → List ℕ → List Check
+text-checks n c out =
+    -- given when: an ill-formed name or one twice in a list, a set bit or a command without a name, not exactly S own states' names, not
+    -- exactly the sheet's K classes with their sets, over 32 child state names or 64 commands
+    rule 17 (names-right n c) ∷
+    -- given when: shared guard records written out as often as they are used would be over 1,024
+    rule 19 (guards-few c) ∷
+    -- given when: buffer too short: under the length of the text
+    rule 15 (leb (length (class-text n c)) (length out)) ∷ []
+
 -- the checks of each question
 unfoldable pub table : Question → List Check
 table (judge b) = sheet-checks b
@@ -103,3 +117,4 @@ table (probe-in b l q) = sheet-checks b ++ place-checks (class-of b) l q
 table (phase-from b l q out) = sheet-checks b ++ (place-checks (class-of b) l q ++ phase-checks (class-of b) l q out)
 table (command-in b l q m out) = sheet-checks b ++ (place-checks (class-of b) l q ++ command-checks (class-of b) l q m out)
 table (loop-with b present out) = sheet-checks b ++ loop-checks (class-of b) present out
+table (text-of b n out) = sheet-checks b ++ text-checks n (class-of b) out

@@ -1,4 +1,4 @@
-// The face: the six questions on bytes and numbers. Each gets an answer for any input; nothing is asked of the caller beforehand, and
+// The face: the seven questions on bytes and numbers. Each gets an answer for any input; nothing is asked of the caller beforehand, and
 // a refusal writes no byte into a lent buffer. What each answer means is in specs/: Questions.antt, Numbers.antt and Promises.antt; of a
 // class text in the specs/ of readings.
 use accepted::held::CLASSES;
@@ -16,14 +16,17 @@ use model::PhaseAnswer;
 use model::ProbeAnswer;
 use model::ReadAnswer;
 use model::Refusal;
+use model::WriteAnswer;
 use sheet::judging::Places;
 use sheet::judging::Verdict;
+use writing::write_text;
 ghost use mathlib.Core.Path.{_≡_};
 ghost use mathlib.Core.List.{[]};
 ghost use Rattle.sheet.specs.Verdict.{Stands};
 ghost use Rattle.sheet.specs.Reading.{class-of};
 ghost use Rattle.readings.specs.Promise.{asked, Answered};
-ghost use Rattle.bargewicker.specs.Questions.{judge, probe-in, phase-from, command-in, loop-with};
+ghost use Rattle.writings.specs.Writings.{named};
+ghost use Rattle.bargewicker.specs.Questions.{judge, probe-in, phase-from, command-in, loop-with, text-of};
 ghost use Rattle.bargewicker.specs.Promises.{Promised};
 ghost use Rattle.bargewicker.specs.Placing.{placed-refusal, placing-number};
 
@@ -100,6 +103,34 @@ pub fn read_class(
     ensures { λ r. ⌜ Answered (asked (now (text .entry)) (now (names .entry)) (now (commands .entry)) (now (classes .entry)) (now (sheet .entry)) (now (table .entry))) r (now (sheet .exit)) (now (table .exit)) ⌝ }
 {
     reading::read_class(text, names, commands, classes, sheet, table)
+}
+
+// What is the text of this sheet's class, with these names? It is written at the head of the lent buffer.
+pub fn write_class(
+    sheet: &[u8],
+    own_name: &[u8],
+    own_states: &[u8],
+    names: &[u8],
+    commands: &[u8],
+    classes: &[u8],
+    out: &mut [u8],
+) -> WriteAnswer
+    ensures { λ r. ⌜ Promised (text-of (now (sheet .entry)) (named (now («own_name» .entry)) (now («own_states» .entry)) (now (names .entry)) (now (commands .entry)) (now (classes .entry))) (now (out .entry))) r (now (out .exit)) ⌝ }
+{
+    let verdict = sheet::judging::judge(sheet);
+    match verdict {
+        Verdict::Accepted(p) => write_text(
+            sheet,
+            p,
+            own_name,
+            own_states,
+            names,
+            commands,
+            classes,
+            out,
+        ),
+        Verdict::Refused(x) => WriteAnswer::Refused(x),
+    }
 }
 
 // What follows is asked of an accepted sheet: refusals 10 to 15 in their order, then the answer.
