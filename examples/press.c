@@ -1,6 +1,6 @@
 /*
  * The five questions about the sheets of a press and an oven, from C. tests/c_example builds this program, runs it and compares what it prints.
- * That a sheet can be made of a class text is in examples/read.c.
+ * How a sheet is made of a class text is in examples/read.c, and how a text is made of a sheet in examples/write.c.
  *
  * The press has heaters, each COLD (0), HOT (1) or FAULT (2), and two own states:
  *   READY (0): when any heater is not HOT, move to HOLD. Command 9: do 4 to all; if all are HOT then move_to HOLD; do 5 to all.

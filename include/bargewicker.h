@@ -1,6 +1,6 @@
 /*
- * Bargewicker for C: six questions, five about class sheets, the binary form of a node class, and one that makes a sheet of a class
- * text, the form in which editors write it.
+ * Bargewicker for C: seven questions. Five are about class sheets, the binary form of a node class; one makes a sheet of a class text, the
+ * form in which editors write it, and one writes the text of a sheet.
  *
  * Link with libbw.a, which 'rt staticlib bw' writes for x86-64 Linux to target/staticlib/.
  *
@@ -24,6 +24,7 @@
  *   loop        0 free         24-31 moves
  *               1 loop         16-23 state, 32-63 configuration
  *   read        0 read         16-23 own states, 32-63 length of the sheet
+ *   write       0 written      32-63 length of the text
  *
  * Of the refusals only BW_WRONG_WORD has a field: bits 8 to 63 are its place in the text, modulo 2^56.
  *
@@ -39,8 +40,8 @@
 extern "C" {
 #endif
 
-/* Refusals. Each is given only where none before it is; those of a class text come in the order 16, 17, 18, 15. 1 to 9 are the
- * sheet's own; a question adds the ones named with it. */
+/* Refusals. Each is given only where none before it is; a class text that is read has them in the order 16, 17, 18, 15, and one that is
+ * written in the order 1 to 9, 17, 19, 15. 1 to 9 are the sheet's own; a question adds the ones named with it. */
 enum {
     BW_NOT_REFUSED = 0,
     BW_SHEET_LENGTH = 1,     /* under 24 or over 18,616 bytes */
@@ -59,8 +60,9 @@ enum {
     BW_NAME_COUNT = 14,      /* the present classes have more than 20 names together */
     BW_ROOM = 15,            /* a buffer is too short */
     BW_WRONG_WORD = 16,      /* a word that cannot stand where it does, or the text is cut short */
-    BW_NAMING = 17,          /* a lent list is not right, or the text has a name that is not known or stands twice */
-    BW_LIMIT = 18            /* more than a sheet can hold, or a child class with an empty set */
+    BW_NAMING = 17,          /* a lent list is not right, or a name is not known, missing, or stands twice */
+    BW_LIMIT = 18,           /* more than a sheet can hold, or a child class with an empty set */
+    BW_WRITTEN_GUARDS = 19   /* the guards that a text would have are over 1,024 records, a shared one counted at each use */
 };
 
 /* Kinds of answers, by question. */
@@ -113,6 +115,17 @@ uint64_t bw_read_class(const uint8_t *text, size_t text_length, const uint8_t *n
                        size_t commands_length, const uint8_t *classes, size_t classes_length, uint8_t *sheet, size_t sheet_room,
                        uint8_t *table, size_t table_room);
 
+/* What is the text of this sheet's class? It stands at the head of the buffer, in one fixed layout; no zero ends it. Reading it with the same
+ * lists gives the same own states, and a sheet that has the same answers to every question.
+ * The class's own name is one entry of 32 bytes; the table of own states has an entry for each state of the sheet, as bw_read_class writes
+ * it. The lists are those of bw_read_class: the child classes exactly the sheet's, with its sets, and a name for every command and every
+ * child state that is to be written; at most 32 names of child states and 64 commands.
+ * Refusals 1 to 9, 17 where that is not so, 19, and 15 where the buffer is too short; 1,259,860 bytes are always enough. */
+uint64_t bw_write_class(const uint8_t *sheet, size_t sheet_length, const uint8_t *own_name, size_t own_name_length,
+                        const uint8_t *own_states, size_t own_states_length, const uint8_t *names, size_t names_length,
+                        const uint8_t *commands, size_t commands_length, const uint8_t *classes, size_t classes_length, uint8_t *out,
+                        size_t room);
+
 /* A field of a word: width bits, from bit lowest on. */
 static inline uint32_t bw_field(uint64_t word, unsigned lowest, unsigned width)
 {
@@ -158,6 +171,9 @@ static inline uint32_t bw_loop_written(uint64_t word)
 static inline uint64_t bw_read_place(uint64_t word) { return word >> 8; }
 static inline uint32_t bw_read_length(uint64_t word) { return bw_field(word, 32, 32); }
 static inline uint32_t bw_read_states(uint64_t word) { return bw_field(word, 16, 8); }
+
+/* The text of a sheet: its length, where it was written. */
+static inline uint32_t bw_write_length(uint64_t word) { return bw_field(word, 32, 32); }
 
 #ifdef __cplusplus
 }

@@ -4,7 +4,7 @@ use Prim.Native.Nat.{ℕ, _*_, _<_, _≤_, _^_}
 use native.Mathlib.Omega.{arith}
 use mathlib.Core.Path.{_≡_, refl, _∙_, ap}
 use mathlib.Core.Option.{some}
-use mathlib.Core.List.{List, [], _∷_}
+use mathlib.Core.List.{List, []}
 use lib.Dec.{leb}
 use lib.ListN.{length}
 use lib.Pow.{pow-mono}
@@ -27,29 +27,31 @@ use Rattle.model.specs.Replies.{Reply, refuse, give, numbers}
 use Rattle.commands.specs.Handling.{bytes-of-handling, reply-handling, handling-values}
 use Rattle.phases.specs.Phasing.{bytes-of-phase, reply-phase, phasing-values}
 use Rattle.loops.specs.LoopQuestion.{present-right, bytes-of-loops, reply-loop}
-use Rattle.bargewicker.specs.Questions.{Answer, accepted, judge, probe-in, phase-from, command-in, loop-with, probed, phased, commanded, looped, reply, reply-command}
+use Rattle.writings.specs.Layout.{Named, class-text}
+use Rattle.writings.specs.Missing.{names-right}
+use Rattle.writings.specs.Writings.{guards-few, reply-text}
+use Rattle.bargewicker.specs.Questions.{Answer, accepted, judge, probe-in, phase-from, command-in, loop-with, text-of, probed, phased, commanded, looped, wrote, reply, reply-command}
 use Rattle.bargewicker.specs.Numbers.{values}
-use Rattle.bw.specs.Packed.{Field, word, unpacked, packed, kinds-of-probe, kinds-of-phase, kinds-of-command, kinds-of-loop, NothingLost}
+use Rattle.bargewicker.specs.WrittenBack.{Writable}
+use Rattle.bargewicker.proofs.WrittenBack.{written-back}
+use Rattle.bw.specs.Packed.{Kinds, word, unpacked, packed, kinds-of-judge, kinds-of-probe, kinds-of-phase, kinds-of-command, kinds-of-loop, kinds-of-text, NothingLost}
 use Rattle.children.proofs.ChildListLaws.{children-most}
 use Rattle.bargewicker.proofs.AnswerBounds.{state-left, few, found-small, do-small, reached-small, left-small, sent-small}
 use Rattle.bw.proofs.Checks.{by-sheet, placed-by, told-by}
 use Rattle.bw.proofs.PhaseBounds.{phase-small}
-use Rattle.bw.proofs.ReadBack.{back-judge, back-refused, back-nothing, back-clause, back-reached, back-do, back-command, back-free, back-loop}
+use Rattle.bw.proofs.ReadBack.{back-refused, back-accepted, back-nothing, back-clause, back-reached, back-do, back-command, back-free, back-loop, back-text}
 
 -- the numbers of a reply are read back from its word
-abbrev Kept : List (List Field) → Reply Answer → Type 0
+abbrev Kept : Kinds → Reply Answer → Type 0
 Kept ks r = unpacked ks (word ks (numbers values r)) ≡ numbers values r
 
 -- every refusal is read back
-no-kinds : (n : ℕ) → n ≤ 15 → Kept [] (refuse n)
-no-kinds n l = back-judge n (omega arith)
+no-answer : (ks : Kinds) (n : ℕ) → 1 ≤ n → n ≤ 19 → Kept ks (refuse n)
+no-answer ks n l m = back-refused ks n l (omega arith)
 
-no-answer : (k : List Field) (ks : List (List Field)) (n : ℕ) → 1 ≤ n → n ≤ 15 → Kept (k ∷ ks) (refuse n)
-no-answer k ks n l m = back-refused k ks n l (omega arith)
-
-accepted-kept : Kept [] (give accepted [])
+accepted-kept : Kept kinds-of-judge (give accepted [])
 unfolding values
-accepted-kept = back-judge 0 (omega arith)
+accepted-kept = back-accepted
 
 -- all that the probe, the when phase and the loop question answer fits
 module _ (b : List ℕ) (h : Bytes b) (a : Accepted b) (ks : List Child) where
@@ -115,23 +117,34 @@ unfolding values handling-values
 handling-kept (handled sent s) l m = back-command 1 s (length (bytes-of-handling (handled sent s))) (omega arith) l m refl
 handling-kept (ignored s) l m = back-command 0 s 0 (omega arith) l (omega arith) refl
 
+-- a text that is written has at most 1,259,860 bytes
+text-kept : (b : List ℕ) (n : Named) → Writable b n → Kept kinds-of-text (give (wrote (length (class-text n (class-of b)))) (class-text n (class-of b)))
+unfolding values
+text-kept b n w = let l = written-back .at-most b n w in back-text (length (class-text n (class-of b))) (omega arith)
+
 -- each number is read back
 pub nothing-lost : NothingLost
-unfolding packed reply reply-phase reply-command reply-handling reply-loop
-nothing-lost (judge b) h = by-sheet (Kept []) 15 (λ n _ l. no-kinds n l) b _ (omega arith) (λ a. accepted-kept)
-nothing-lost (probe-in b l q) h = placed-by (Kept kinds-of-probe) 15 (no-answer _ _) b l q _ (omega arith) (λ a _ _. probe-kept b h a (children-of l) q)
+unfolding packed reply reply-phase reply-command reply-handling reply-loop reply-text
+nothing-lost (judge b) h = by-sheet (Kept kinds-of-judge) 19 (no-answer _) b _ (omega arith) (λ a. accepted-kept)
+nothing-lost (probe-in b l q) h = placed-by (Kept kinds-of-probe) 19 (no-answer _) b l q _ (omega arith) (λ a _ _. probe-kept b h a (children-of l) q)
 nothing-lost (phase-from b l q out) h =
-    placed-by (Kept kinds-of-phase) 15 (no-answer _ _) b l q _ (omega arith) λ a right low.
-    told-by (Kept kinds-of-phase) 15 (no-answer _ _) phased (leb (length (bytes-of-phase (phase (class-of b) (children-of l) q))) (length out)) 15 _ (omega arith) (omega arith) λ _.
+    placed-by (Kept kinds-of-phase) 19 (no-answer _) b l q _ (omega arith) λ a right low.
+    told-by (Kept kinds-of-phase) 19 (no-answer _) phased (leb (length (bytes-of-phase (phase (class-of b) (children-of l) q))) (length out)) 15 _ (omega arith) (omega arith) λ _.
     phase-kept b h a (children-of l) q low (children-most (class-of b) l right)
 nothing-lost (command-in b l q m out) h =
-    placed-by (Kept kinds-of-command) 15 (no-answer _ _) b l q _ (omega arith) λ a right low.
-    told-by (Kept kinds-of-command) 15 (no-answer _ _) commanded (leb m 63) 12 _ (omega arith) (omega arith) λ _.
-    told-by (Kept kinds-of-command) 15 (no-answer _ _) commanded (leb (length (bytes-of-handling (command (class-of b) (children-of l) q m))) (length out)) 15 _ (omega arith) (omega arith) λ _.
+    placed-by (Kept kinds-of-command) 19 (no-answer _) b l q _ (omega arith) λ a right low.
+    told-by (Kept kinds-of-command) 19 (no-answer _) commanded (leb m 63) 12 _ (omega arith) (omega arith) λ _.
+    told-by (Kept kinds-of-command) 19 (no-answer _) commanded (leb (length (bytes-of-handling (command (class-of b) (children-of l) q m))) (length out)) 15 _ (omega arith) (omega arith) λ _.
     handling-kept (command (class-of b) (children-of l) q m) (left-small b h a (children-of l) q low m) (sent-small b h a (children-of l) q low m (children-most (class-of b) l right))
 nothing-lost (loop-with b present out) h =
-    by-sheet (Kept kinds-of-loop) 15 (no-answer _ _) b _ (omega arith) λ a.
-    told-by (Kept kinds-of-loop) 15 (no-answer _ _) looped (present-right (class-of b) present) 13 _ (omega arith) (omega arith) λ _.
-    told-by (Kept kinds-of-loop) 15 (no-answer _ _) looped (leb (name-count (class-of b) present) 20) 14 _ (omega arith) (omega arith) λ e.
-    told-by (Kept kinds-of-loop) 15 (no-answer _ _) looped (leb (2 * name-count (class-of b) present) (length out)) 15 _ (omega arith) (omega arith) λ _.
+    by-sheet (Kept kinds-of-loop) 19 (no-answer _) b _ (omega arith) λ a.
+    told-by (Kept kinds-of-loop) 19 (no-answer _) looped (present-right (class-of b) present) 13 _ (omega arith) (omega arith) λ _.
+    told-by (Kept kinds-of-loop) 19 (no-answer _) looped (leb (name-count (class-of b) present) 20) 14 _ (omega arith) (omega arith) λ e.
+    told-by (Kept kinds-of-loop) 19 (no-answer _) looped (leb (2 * name-count (class-of b) present) (length out)) 15 _ (omega arith) (omega arith) λ _.
     loop-kept b h a [] present (leb-true (name-count (class-of b) present) 20 e)
+nothing-lost (text-of b n out) h =
+    by-sheet (Kept kinds-of-text) 19 (no-answer _) b _ (omega arith) λ a.
+    told-by (Kept kinds-of-text) 19 (no-answer _) wrote (names-right n (class-of b)) 17 _ (omega arith) (omega arith) λ named.
+    told-by (Kept kinds-of-text) 19 (no-answer _) wrote (guards-few (class-of b)) 19 _ (omega arith) (omega arith) λ few.
+    told-by (Kept kinds-of-text) 19 (no-answer _) wrote (leb (length (class-text n (class-of b))) (length out)) 15 _ (omega arith) (omega arith) λ _.
+    text-kept b n (record { bytes = h; accepted = a; named = named; few = few })

@@ -6,7 +6,7 @@ use mathlib.Core.Path.{_≡_, sym, _∙_, ap}
 use mathlib.Core.List.{List, [], _∷_}
 use Rattle.model.specs.Refusals.{number-of}
 use Rattle.model.specs.declared.Refusal.{Refusal}
-use Rattle.model.specs.declared.Refusal.the-variants.{SheetLength, Contents, EmptyNameSet, ClauseCounts, GuardLayout, GuardReach, Target, ActionClause, Statement, ChildList, AskedState, AskedCommand, PresentBit, NameCount, Room, Naming, Limit}
+use Rattle.model.specs.declared.Refusal.the-variants.{SheetLength, Contents, EmptyNameSet, ClauseCounts, GuardLayout, GuardReach, Target, ActionClause, Statement, ChildList, AskedState, AskedCommand, PresentBit, NameCount, Room, Naming, Limit, WrittenGuards}
 use Rattle.model.specs.declared.OwnState.{OwnState}
 use Rattle.model.specs.Answers.{referrer-as}
 use Rattle.model.specs.declared.Referrer.{Referrer}
@@ -22,24 +22,24 @@ use Rattle.readings.specs.Promise.{reading-as, Answered}
 use Rattle.readings.proofs.ReadLaws.{reads}
 use Rattle.bargewicker.specs.Questions.{Question}
 use Rattle.bargewicker.specs.Promises.{AnswerTo, numbers-of, Promised}
-use Rattle.bw.specs.Packed.{Field, side-by-side, fields, word, kinds, packed, kinds-of-probe, kinds-of-phase, kinds-of-command, kinds-of-loop, Returned, OneWordAndBuffer}
+use Rattle.bw.specs.Packed.{Kinds, side-by-side, fields, word, kinds, packed, kinds-of-judge, kinds-of-probe, kinds-of-phase, kinds-of-command, kinds-of-loop, kinds-of-text, Returned, OneWordAndBuffer}
 use Rattle.bw.specs.PackedReading.{packed-reading, ReturnedReading, OneWordAndBuffers}
 
--- the largest number of a refusal is 18
-small : (x : Refusal) → number-of x ≤ 18
-small x = elim x [ SheetLength ↦ omega arith | Contents ↦ omega arith | EmptyNameSet ↦ omega arith | ClauseCounts ↦ omega arith | GuardLayout ↦ omega arith | GuardReach ↦ omega arith | Target ↦ omega arith | ActionClause ↦ omega arith | Statement ↦ omega arith | ChildList ↦ omega arith | AskedState ↦ omega arith | AskedCommand ↦ omega arith | PresentBit ↦ omega arith | NameCount ↦ omega arith | Room ↦ omega arith | Naming ↦ omega arith | Limit ↦ omega arith ]
+-- the largest number of a refusal is 19
+small : (x : Refusal) → number-of x ≤ 19
+small x = elim x [ SheetLength ↦ omega arith | Contents ↦ omega arith | EmptyNameSet ↦ omega arith | ClauseCounts ↦ omega arith | GuardLayout ↦ omega arith | GuardReach ↦ omega arith | Target ↦ omega arith | ActionClause ↦ omega arith | Statement ↦ omega arith | ChildList ↦ omega arith | AskedState ↦ omega arith | AskedCommand ↦ omega arith | PresentBit ↦ omega arith | NameCount ↦ omega arith | Room ↦ omega arith | Naming ↦ omega arith | Limit ↦ omega arith | WrittenGuards ↦ omega arith ]
 
 -- a refusal is its own word, whatever was asked
-pub word-refused : (ks : List (List Field)) (x : Refusal) (r : ℕ) → r ≡ number-of x → (ns : List ℕ) → ns ≡ number-of x ∷ [] → r ≡ word ks ns
+pub word-refused : (ks : Kinds) (x : Refusal) (r : ℕ) → r ≡ number-of x → (ns : List ℕ) → ns ≡ number-of x ∷ [] → r ≡ word ks ns
 unfolding word fields side-by-side
 word-refused ks x r e ns f = let l = small x in let z : r ≡ word ks (number-of x ∷ []) = omega arith in z ∙ ap (word ks) (sym f)
 
 -- what is given has the word of its numbers
-pub word-given : (ks : List (List Field)) (r : ℕ) (ms ns : List ℕ) → r ≡ word ks ms → ns ≡ ms → r ≡ word ks ns
+pub word-given : (ks : Kinds) (r : ℕ) (ms ns : List ℕ) → r ≡ word ks ms → ns ≡ ms → r ≡ word ks ns
 word-given ks r ms ns e f = e ∙ ap (word ks) (sym f)
 
 -- an accepted sheet, and a probe that finds nothing, have the word 0
-pub word-accepted : (ns : List ℕ) → ns ≡ 0 ∷ [] → 0 ≡ word [] ns
+pub word-accepted : (ns : List ℕ) → ns ≡ 0 ∷ [] → 0 ≡ word kinds-of-judge ns
 unfolding word fields side-by-side
 word-accepted ns f = rw f
 
@@ -100,6 +100,11 @@ module _ (q : ℕ) (l : q < 256) (ns : List ℕ) where
 pub word-free : (m : ℕ) (ns : List ℕ) → ns ≡ 0 ∷ m ∷ [] → m % 256 * 16777216 ≡ word kinds-of-loop (0 ∷ ns)
 unfolding word fields side-by-side
 word-free m ns f = rw f (omega arith)
+
+-- a text that was written
+pub word-written : (n : ℕ) (ns : List ℕ) → ns ≡ 0 ∷ n ∷ [] → n % 4294967296 * 4294967296 ≡ word kinds-of-text ns
+unfolding word fields side-by-side
+word-written n ns f = rw f (omega arith)
 
 -- the word of what a question is answered
 pub returned : (q : Question) (a : AnswerTo q) (w : ℕ) (after : List ℕ) → w ≡ word (kinds q) (numbers-of q a) → Promised q a after → Returned q w after

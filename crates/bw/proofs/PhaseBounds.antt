@@ -10,7 +10,6 @@ use borrow.Author.Tests.{le-leb}
 use Rattle.model.specs.Tree.{Child, Class}
 use Rattle.model.specs.Node.{own-states, Phase, settled, loops, phase}
 use Rattle.model.specs.Words.{Bytes}
-use Rattle.model.specs.Replies.{Reply, refuse, give}
 use Rattle.model.proofs.PhaseSize.{phase-sends}
 use Rattle.sheet.specs.Rules.{Accepted}
 use Rattle.sheet.specs.Reading.{class-of}
@@ -20,9 +19,9 @@ use Rattle.sheet.proofs.Sound.{sound}
 use Rattle.children.specs.ChildList.{children-of, sent-bytes}
 use Rattle.children.proofs.ChildListLaws.{three-each, children-most}
 use Rattle.phases.specs.Phasing.{bytes-of-phase, reply-phase}
-use Rattle.bargewicker.specs.Questions.{Answer, reply}
+use Rattle.bargewicker.specs.Questions.{reply}
 use Rattle.bw.specs.Packed.{PhaseRoomEnough}
-use Rattle.bw.proofs.Checks.{placed-by}
+use Rattle.bw.proofs.Checks.{placed-by, Roomy, other-refusal, answered}
 
 module _ (b : List ℕ) (h : Bytes b) (a : Accepted b) (ks : List Child) where
   abbrev c : Class
@@ -38,19 +37,9 @@ module _ (b : List ℕ) (h : Bytes b) (a : Accepted b) (ks : List Child) where
       go (settled x r m sent) e =
           omega (arith, three-each sent, phase-sends c ks (sound b h a) q low x r m sent e, mul-le-mul-right (length ks) (class-few b (accepted-right b a)))
 
--- 15 is not given
-abbrev Roomy : Reply Answer → Type 0
-Roomy r = r ≡ refuse 15 → ⊥
-
 pub phase-room-enough : PhaseRoomEnough
 unfolding reply reply-phase
 phase-room-enough b l q out h room =
-    placed-by Roomy 14 other b l q _ (omega arith) λ a right low.
+    placed-by Roomy 14 (λ n low high. other-refusal n (λ e. omega arith)) b l q _ (omega arith) λ a right low.
     let small = phase-small b h a (children-of l) q low (children-most (class-of b) l right) in
-    rw (le-leb (length (bytes-of-phase (phase (class-of b) (children-of l) q))) (length out) (omega arith)) given
-  where
-    other : (n : ℕ) → 1 ≤ n → n ≤ 14 → Roomy (refuse n)
-    other n l m e = let z : n ≡ 15 = cc in omega arith
-
-    given : {x : Answer} {ns : List ℕ} → Roomy (give x ns)
-    given e = let z : _≡_ {A = ℕ} 0 1 = cc in omega arith
+    rw (le-leb (length (bytes-of-phase (phase (class-of b) (children-of l) q))) (length out) (omega arith)) answered

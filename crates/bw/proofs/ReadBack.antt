@@ -5,26 +5,26 @@ use native.Mathlib.Omega.{arith}
 use mathlib.Core.Path.{_≡_, refl, _∙_, ap}
 use mathlib.Core.List.{List, [], _∷_, map}
 use lib.Arith.{digits-div, digits-mod}
-use lib.ListN.{getD}
 use borrow.Author.Tests.{ne-eqb}
-use Rattle.bw.specs.Packed.{Field, refused, kind, clause, referrer, target, state, moves, to-do, phase-written, command-written, configuration, side-by-side, fields, word, read, unpacked, way, kinds-of-probe, kinds-of-phase, kinds-of-command, kinds-of-loop}
+use Rattle.bw.specs.Packed.{Field, refused, kind, clause, referrer, target, state, moves, to-do, phase-written, command-written, configuration, text-written, Kinds, behind, side-by-side, fields, word, read, unpacked, way, kinds-of-judge, kinds-of-probe, kinds-of-phase, kinds-of-command, kinds-of-loop, kinds-of-text}
 
--- a refusal
-pub back-judge : (n : ℕ) → n < 256 → unpacked [] (word [] (n ∷ [])) ≡ n ∷ []
+-- a refusal, whatever was asked
+pub back-refused : (ks : Kinds) (n : ℕ) → 1 ≤ n → n < 256 → unpacked ks (word ks (n ∷ [])) ≡ n ∷ []
 unfolding word fields side-by-side unpacked
-back-judge n l = let w = word [] (n ∷ []) in let e : read w refused ≡ n = omega arith in ap (λ (x : ℕ). x ∷ []) e
-
-pub back-refused : (k : List Field) (ks : List (List Field)) (n : ℕ) → 1 ≤ n → n < 256 → unpacked (k ∷ ks) (word (k ∷ ks) (n ∷ [])) ≡ n ∷ []
-unfolding word fields side-by-side unpacked
-back-refused k ks n p l =
-    let w = word (k ∷ ks) (n ∷ []) in
+back-refused ks n p l =
+    let w = word ks (n ∷ []) in
     let e : read w refused ≡ n = omega arith in
     rw (e, ne-eqb n 0 (λ z. let y : n ≡ 0 = z in omega arith))
 
--- an answer: the kind, then the fields of that kind
-given : (k : List Field) (ks : List (List Field)) (w n : ℕ) → read w refused ≡ 0 → read w kind ≡ n → unpacked (k ∷ ks) w ≡ 0 ∷ n ∷ map (read w) (getD (k ∷ ks) n [])
+-- an answer: the fields behind the refusal
+given : (ks : Kinds) (w n : ℕ) → read w refused ≡ 0 → read w kind ≡ n → unpacked ks w ≡ 0 ∷ map (read w) (behind ks n)
 unfolding unpacked
-given k ks w n e f = rw (e, f)
+given ks w n e f = rw (e, f)
+
+-- its word, where these are the fields of the kind
+of-kind : (ks : Kinds) (k : ℕ) (fs : List Field) (ns : List ℕ) → behind ks k ≡ fs → word ks (0 ∷ k ∷ ns) ≡ side-by-side (refused ∷ fs) (0 ∷ k ∷ ns)
+unfolding word fields
+of-kind ks k fs ns f = ap (λ (gs : List Field). side-by-side (refused ∷ gs) (0 ∷ k ∷ ns)) f
 
 -- a field is read back from a word in which it stands between what is above and what is below it
 pub between : (f : Field) (w above n below : ℕ) → w ≡ (above * 2 ^ f .width + n) * 2 ^ f .lowest + below → below < 2 ^ f .lowest → n < 2 ^ f .width → read w f ≡ n
@@ -38,6 +38,11 @@ front w k u e l = (between refused w (k + 256 * u) 0 0 (omega arith) (omega arit
 -- most have a state; what is above it is u
 state-in : (w k q u : ℕ) → w ≡ k * 256 + q * 65536 + u * 16777216 → k < 256 → q < 256 → read w state ≡ q
 state-in w k q u e l o = between state w u q (k * 256) (omega arith) (omega arith) o
+
+-- an accepted sheet
+pub back-accepted : unpacked kinds-of-judge (word kinds-of-judge (0 ∷ [])) ≡ 0 ∷ []
+unfolding word fields side-by-side unpacked
+back-accepted = refl
 
 -- the probe: no clause
 pub back-nothing : unpacked kinds-of-probe (word kinds-of-probe (0 ∷ 0 ∷ [])) ≡ 0 ∷ 0 ∷ []
@@ -55,21 +60,24 @@ back-clause i r t l m n = go (word kinds-of-probe (0 ∷ 1 ∷ i ∷ r ∷ t ∷
         let x = between clause w (r + 256 * t) i 256 (omega arith) (omega arith) l in
         let y = between referrer w t r (256 + i * 65536) (omega arith) (omega arith) m in
         let z = between target w 0 t (256 + i * 65536 + r * 4294967296) (omega arith) (omega arith) n in
-        given [] ((clause ∷ referrer ∷ target ∷ []) ∷ []) w 1 a b ∙ cc (x, y, z)
+        given kinds-of-probe w 1 a b ∙ cc (b, x, y, z)
 
 -- the state, the moves and the bytes of a when phase, of a kind that has these three
-pub back-reached : (k q m n : ℕ) → k < 256 → q < 256 → m < 256 → n < 16777216 → getD kinds-of-phase k [] ≡ way
+pub back-reached : (k q m n : ℕ) → k < 256 → q < 256 → m < 256 → n < 16777216 → behind kinds-of-phase k ≡ kind ∷ way
     → unpacked kinds-of-phase (word kinds-of-phase (0 ∷ k ∷ q ∷ m ∷ n ∷ [])) ≡ 0 ∷ k ∷ q ∷ m ∷ n ∷ []
-unfolding word fields side-by-side
-back-reached k q m n l o p r f = go (word kinds-of-phase (0 ∷ k ∷ q ∷ m ∷ n ∷ [])) (rw f (omega arith))
+unfolding side-by-side
+back-reached k q m n l o p r f = go (word kinds-of-phase (0 ∷ k ∷ q ∷ m ∷ n ∷ [])) (of-kind kinds-of-phase k (kind ∷ way) (q ∷ m ∷ n ∷ []) f ∙ sum)
   where
+    sum : side-by-side (refused ∷ kind ∷ way) (0 ∷ k ∷ q ∷ m ∷ n ∷ []) ≡ k * 256 + q * 65536 + m * 16777216 + n * 1099511627776
+    sum = omega arith
+
     go : (w : ℕ) → w ≡ k * 256 + q * 65536 + m * 16777216 + n * 1099511627776 → unpacked kinds-of-phase w ≡ 0 ∷ k ∷ q ∷ m ∷ n ∷ []
     go w e =
         let (a, b) = front w k (q + 256 * m + 16777216 * n) (omega arith) l in
         let x = state-in w k q (m + 65536 * n) (omega arith) l o in
         let y = between moves w (256 * n) m (k * 256 + q * 65536) (omega arith) (omega arith) p in
         let z = between phase-written w 0 n (k * 256 + q * 65536 + m * 16777216) (omega arith) (omega arith) r in
-        given way (way ∷ (state ∷ moves ∷ phase-written ∷ to-do ∷ []) ∷ way ∷ []) w k a b ∙ ap (λ (fs : List Field). 0 ∷ k ∷ map (read w) fs) f ∙ cc (x, y, z)
+        given kinds-of-phase w k a b ∙ ap (λ (fs : List Field). 0 ∷ map (read w) fs) f ∙ cc (b, x, y, z)
 
 -- the same with the command of a closing DO
 pub back-do : (q m n c : ℕ) → q < 256 → m < 256 → n < 16777216 → c < 256
@@ -84,20 +92,23 @@ back-do q m n c l o r p = go (word kinds-of-phase (0 ∷ 2 ∷ q ∷ m ∷ n ∷
         let y = between moves w (c + 256 * n) m (512 + q * 65536) (omega arith) (omega arith) o in
         let z = between phase-written w 0 n (512 + q * 65536 + m * 16777216 + c * 4294967296) (omega arith) (omega arith) r in
         let u = between to-do w n c (512 + q * 65536 + m * 16777216) (omega arith) (omega arith) p in
-        given way (way ∷ (state ∷ moves ∷ phase-written ∷ to-do ∷ []) ∷ way ∷ []) w 2 a b ∙ cc (x, y, z, u)
+        given kinds-of-phase w 2 a b ∙ cc (b, x, y, z, u)
 
 -- the state of a command and the bytes written; both kinds have them
-pub back-command : (k q n : ℕ) → k < 256 → q < 256 → n < 4294967296 → getD kinds-of-command k [] ≡ state ∷ command-written ∷ []
+pub back-command : (k q n : ℕ) → k < 256 → q < 256 → n < 4294967296 → behind kinds-of-command k ≡ kind ∷ state ∷ command-written ∷ []
     → unpacked kinds-of-command (word kinds-of-command (0 ∷ k ∷ q ∷ n ∷ [])) ≡ 0 ∷ k ∷ q ∷ n ∷ []
-unfolding word fields side-by-side
-back-command k q n l o p f = go (word kinds-of-command (0 ∷ k ∷ q ∷ n ∷ [])) (rw f (omega arith))
+unfolding side-by-side
+back-command k q n l o p f = go (word kinds-of-command (0 ∷ k ∷ q ∷ n ∷ [])) (of-kind kinds-of-command k (kind ∷ state ∷ command-written ∷ []) (q ∷ n ∷ []) f ∙ sum)
   where
+    sum : side-by-side (refused ∷ kind ∷ state ∷ command-written ∷ []) (0 ∷ k ∷ q ∷ n ∷ []) ≡ k * 256 + q * 65536 + n * 4294967296
+    sum = omega arith
+
     go : (w : ℕ) → w ≡ k * 256 + q * 65536 + n * 4294967296 → unpacked kinds-of-command w ≡ 0 ∷ k ∷ q ∷ n ∷ []
     go w e =
         let (a, b) = front w k (q + 65536 * n) (omega arith) l in
         let x = state-in w k q (256 * n) (omega arith) l o in
         let y = between command-written w 0 n (k * 256 + q * 65536) (omega arith) (omega arith) p in
-        given (state ∷ command-written ∷ []) ((state ∷ command-written ∷ []) ∷ []) w k a b ∙ ap (λ (fs : List Field). 0 ∷ k ∷ map (read w) fs) f ∙ cc (x, y)
+        given kinds-of-command w k a b ∙ ap (λ (fs : List Field). 0 ∷ map (read w) fs) f ∙ cc (b, x, y)
 
 -- the moves of a class that is free of loops; the configuration and the state of a loop
 pub back-free : (m : ℕ) → m < 256 → unpacked kinds-of-loop (word kinds-of-loop (0 ∷ 0 ∷ m ∷ [])) ≡ 0 ∷ 0 ∷ m ∷ []
@@ -108,7 +119,7 @@ back-free m l = go (word kinds-of-loop (0 ∷ 0 ∷ m ∷ [])) (omega arith)
     go w e =
         let (a, b) = front w 0 (256 * m) (omega arith) (omega arith) in
         let x = between moves w 0 m 0 (omega arith) (omega arith) l in
-        given (moves ∷ []) ((configuration ∷ state ∷ []) ∷ []) w 0 a b ∙ cc (x)
+        given kinds-of-loop w 0 a b ∙ cc (b, x)
 
 pub back-loop : (k q : ℕ) → k < 4294967296 → q < 256 → unpacked kinds-of-loop (word kinds-of-loop (0 ∷ 1 ∷ k ∷ q ∷ [])) ≡ 0 ∷ 1 ∷ k ∷ q ∷ []
 unfolding word fields side-by-side
@@ -119,4 +130,15 @@ back-loop k q l o = go (word kinds-of-loop (0 ∷ 1 ∷ k ∷ q ∷ [])) (omega 
         let (a, b) = front w 1 (q + 65536 * k) (omega arith) (omega arith) in
         let x = between configuration w 0 k (256 + q * 65536) (omega arith) (omega arith) l in
         let y = state-in w 1 q (256 * k) (omega arith) (omega arith) o in
-        given (moves ∷ []) ((configuration ∷ state ∷ []) ∷ []) w 1 a b ∙ cc (x, y)
+        given kinds-of-loop w 1 a b ∙ cc (b, x, y)
+
+-- the length of a text that was written
+pub back-text : (n : ℕ) → n < 4294967296 → unpacked kinds-of-text (word kinds-of-text (0 ∷ n ∷ [])) ≡ 0 ∷ n ∷ []
+unfolding word fields side-by-side
+back-text n l = go (word kinds-of-text (0 ∷ n ∷ [])) (omega arith)
+  where
+    go : (w : ℕ) → w ≡ n * 4294967296 → unpacked kinds-of-text w ≡ 0 ∷ n ∷ []
+    go w e =
+        let a = between refused w (16777216 * n) 0 0 (omega arith) (omega arith) (omega arith) in
+        let x = between text-written w 0 n 0 (omega arith) (omega arith) l in
+        given kinds-of-text w (read w kind) a refl ∙ cc (x)

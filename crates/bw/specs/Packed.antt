@@ -7,7 +7,8 @@ use lib.Dec.{eqb}
 use lib.ListN.{length, getD}
 use Rattle.model.specs.Words.{choose, Bytes}
 use Rattle.model.specs.Replies.{refuse, buffer-after}
-use Rattle.bargewicker.specs.Questions.{Question, judge, probe-in, phase-from, command-in, loop-with, lent, reply}
+use Rattle.writings.specs.Layout.{Named}
+use Rattle.bargewicker.specs.Questions.{Question, judge, probe-in, phase-from, command-in, loop-with, text-of, lent, reply}
 use Rattle.bargewicker.specs.Numbers.{numbers-for}
 
 -- a field of a word: its lowest bit, and how many bits it has
@@ -18,7 +19,7 @@ pub record Field : Type 0 where
 abbrev pub field : ℕ → ℕ → Field
 field lowest width = record { lowest = lowest; width = width }
 
--- every word has these two: the refusal, 0 for none, and which case of the answer it is
+-- every word has the refusal, 0 for none; where an answer has several cases, it has the kind: which of them it is
 abbrev pub refused : Field
 refused = field 0 8
 
@@ -55,28 +56,50 @@ command-written = field 32 32
 abbrev pub configuration : Field
 configuration = field 32 32
 
--- the fields of each kind of answer, in the order of its numbers, kind 0 first; every phase has the same three
-abbrev pub kinds-of-probe : List (List Field)
-kinds-of-probe = [] ∷ (clause ∷ referrer ∷ target ∷ []) ∷ []
+-- the number of bytes of a text that was written
+abbrev pub text-written : Field
+text-written = field 32 32
 
+-- what stands behind the refusal, in the order of the answer's numbers: the fields of an answer that has one kind only; or the kind, and its
+-- fields, kind 0 first
+pub data Kinds : Type 0 where
+  one-kind : List Field → Kinds
+  by-kind : List (List Field) → Kinds
+
+-- the fields behind the refusal, if the kind is k
+abbrev pub behind : Kinds → ℕ → List Field
+behind (one-kind fs) k = fs
+behind (by-kind ks) k = kind ∷ getD ks k []
+
+abbrev pub kinds-of-judge : Kinds
+kinds-of-judge = one-kind []
+
+abbrev pub kinds-of-probe : Kinds
+kinds-of-probe = by-kind ([] ∷ (clause ∷ referrer ∷ target ∷ []) ∷ [])
+
+-- every phase has the same three
 abbrev pub way : List Field
 way = state ∷ moves ∷ phase-written ∷ []
 
-abbrev pub kinds-of-phase : List (List Field)
-kinds-of-phase = way ∷ way ∷ (state ∷ moves ∷ phase-written ∷ to-do ∷ []) ∷ way ∷ []
+abbrev pub kinds-of-phase : Kinds
+kinds-of-phase = by-kind (way ∷ way ∷ (state ∷ moves ∷ phase-written ∷ to-do ∷ []) ∷ way ∷ [])
 
-abbrev pub kinds-of-command : List (List Field)
-kinds-of-command = (state ∷ command-written ∷ []) ∷ (state ∷ command-written ∷ []) ∷ []
+abbrev pub kinds-of-command : Kinds
+kinds-of-command = by-kind ((state ∷ command-written ∷ []) ∷ (state ∷ command-written ∷ []) ∷ [])
 
-abbrev pub kinds-of-loop : List (List Field)
-kinds-of-loop = (moves ∷ []) ∷ (configuration ∷ state ∷ []) ∷ []
+abbrev pub kinds-of-loop : Kinds
+kinds-of-loop = by-kind ((moves ∷ []) ∷ (configuration ∷ state ∷ []) ∷ [])
 
-abbrev pub kinds : Question → List (List Field)
-kinds (judge b) = []
+abbrev pub kinds-of-text : Kinds
+kinds-of-text = one-kind (text-written ∷ [])
+
+abbrev pub kinds : Question → Kinds
+kinds (judge b) = kinds-of-judge
 kinds (probe-in b l q) = kinds-of-probe
 kinds (phase-from b l q out) = kinds-of-phase
 kinds (command-in b l q m out) = kinds-of-command
 kinds (loop-with b present out) = kinds-of-loop
+kinds (text-of b n out) = kinds-of-text
 
 -- a number in its field: as many of its low bits as there is room for
 abbrev pub placed-in : Field → ℕ → ℕ
@@ -88,13 +111,13 @@ side-by-side [] ns = 0
 side-by-side (f ∷ fs) [] = 0
 side-by-side (f ∷ fs) (n ∷ ns) = placed-in f n + side-by-side fs ns
 
--- the fields of an answer's numbers: a refusal has only its own
-unfoldable pub fields : List (List Field) → List ℕ → List Field
+-- the fields of an answer's numbers: a refusal has only its own; behind it the first number is the kind, where there are several
+unfoldable pub fields : Kinds → List ℕ → List Field
 fields ks [] = refused ∷ []
 fields ks (n ∷ []) = refused ∷ []
-fields ks (n ∷ k ∷ values) = refused ∷ kind ∷ getD ks k []
+fields ks (n ∷ k ∷ values) = refused ∷ behind ks k
 
-unfoldable pub word : List (List Field) → List ℕ → ℕ
+unfoldable pub word : Kinds → List ℕ → ℕ
 word ks ns = side-by-side (fields ks ns) ns
 
 -- the word of a question
@@ -110,10 +133,9 @@ pub record Returned (q : Question) (r : ℕ) (after : List ℕ) : Type 0 where
 abbrev pub read : ℕ → Field → ℕ
 read w f = w / 2 ^ f .lowest % 2 ^ f .width
 
--- the numbers that a word holds: a refusal alone; or 0, the kind and its values. Where there are no kinds it is the refusal or 0
-unfoldable pub unpacked : List (List Field) → ℕ → List ℕ
-unpacked [] w = read w refused ∷ []
-unpacked (k ∷ ks) w = choose (eqb (read w refused) 0) (λ _. 0 ∷ read w kind ∷ map (read w) (getD (k ∷ ks) (read w kind) [])) (λ _. read w refused ∷ [])
+-- the numbers that a word holds: a refusal alone; or 0, and what is behind it
+unfoldable pub unpacked : Kinds → ℕ → List ℕ
+unpacked ks w = choose (eqb (read w refused) 0) (λ _. 0 ∷ map (read w) (behind ks (read w kind))) (λ _. read w refused ∷ [])
 
 -- the sheet that a question is about
 abbrev pub sheet-of : Question → List ℕ
@@ -122,6 +144,7 @@ sheet-of (probe-in b l q) = b
 sheet-of (phase-from b l q out) = b
 sheet-of (command-in b l q m out) = b
 sheet-of (loop-with b present out) = b
+sheet-of (text-of b n out) = b
 
 -- every number of the answer is read back from its word, whatever bytes the sheet is
 abbrev pub NothingLost : Type 0
@@ -134,3 +157,7 @@ OneWordAndBuffer = (q : Question) (r s : ℕ) (x y : List ℕ) → Returned q r 
 -- a buffer of 12,582,912 bytes is always enough for what a when phase writes
 abbrev pub PhaseRoomEnough : Type 0
 PhaseRoomEnough = (b l : List ℕ) (q : ℕ) (out : List ℕ) → Bytes b → 12582912 ≤ length out → reply (phase-from b l q out) ≡ refuse 15 → ⊥
+
+-- a buffer of 1,259,860 bytes is always enough for a text
+abbrev pub WriteRoomEnough : Type 0
+WriteRoomEnough = (b : List ℕ) (n : Named) (out : List ℕ) → Bytes b → 1259860 ≤ length out → reply (text-of b n out) ≡ refuse 15 → ⊥

@@ -1,5 +1,5 @@
 // The face for C: each question as an exported function that returns one word. A slice is a pointer and a length to C; nothing more is
-// asked of the caller, and a refusal writes nothing. What a word holds is in specs/Packed.antt, of a class text in
+// asked of the caller, and a refusal writes nothing. What a word holds is in specs/Packed.antt, of a class text that is read in
 // specs/PackedReading.antt, and for C in include/bargewicker.h.
 use model::CommandAnswer;
 use model::Ending;
@@ -14,14 +14,16 @@ use model::ProbeAnswer;
 use model::Probed;
 use model::ReadAnswer;
 use model::Referrer;
+use model::WriteAnswer;
 use model::refusal_number;
 ghost use mathlib.Core.Path.{_≡_};
 ghost use mathlib.Core.List.{[], _∷_};
 ghost use Rattle.model.specs.Values.{probed-values, settled-values};
-ghost use Rattle.model.specs.Answers.{probed-as, ending-as, phased-values, handled-values, looped-values, judge-numbers, probe-numbers, phase-numbers, command-numbers, loop-numbers};
-ghost use Rattle.bargewicker.specs.Questions.{judge, probe-in, phase-from, command-in, loop-with};
+ghost use Rattle.model.specs.Answers.{probed-as, ending-as, phased-values, handled-values, looped-values, judge-numbers, probe-numbers, phase-numbers, command-numbers, loop-numbers, write-numbers};
+ghost use Rattle.bargewicker.specs.Questions.{judge, probe-in, phase-from, command-in, loop-with, text-of};
+ghost use Rattle.writings.specs.Writings.{named};
 ghost use Rattle.readings.specs.Promise.{asked, reading-as};
-ghost use Rattle.bw.specs.Packed.{word, kinds-of-probe, kinds-of-phase, kinds-of-command, kinds-of-loop, Returned};
+ghost use Rattle.bw.specs.Packed.{word, kinds-of-judge, kinds-of-probe, kinds-of-phase, kinds-of-command, kinds-of-loop, kinds-of-text, Returned};
 ghost use Rattle.bw.specs.PackedReading.{packed-reading, ReturnedReading};
 
 // A value times one of these stands in its field of the word.
@@ -112,9 +114,25 @@ pub extern "C" fn bw_read_class(
     pack_reading(bargewicker::read_class(text, names, commands, classes, sheet, table))
 }
 
+// What is the text of this sheet's class, with these names? It goes to the lent buffer.
+#[no_mangle]
+pub extern "C" fn bw_write_class(
+    sheet: &[u8],
+    own_name: &[u8],
+    own_states: &[u8],
+    names: &[u8],
+    commands: &[u8],
+    classes: &[u8],
+    out: &mut [u8],
+) -> u64
+    ensures { λ r. ⌜ Returned (text-of (now (sheet .entry)) (named (now («own_name» .entry)) (now («own_states» .entry)) (now (names .entry)) (now (commands .entry)) (now (classes .entry))) (now (out .entry))) r (now (out .exit)) ⌝ }
+{
+    pack_text(bargewicker::write_class(sheet, own_name, own_states, names, commands, classes, out))
+}
+
 // The word of each answer: a refusal's number, or what is given.
 fn pack_judge(answer: JudgeAnswer) -> u64
-    ensures { λ r. ⌜ r ≡ word [] (judge-numbers answer) ⌝ }
+    ensures { λ r. ⌜ r ≡ word kinds-of-judge (judge-numbers answer) ⌝ }
 {
     match answer {
         JudgeAnswer::Refused(x) => refusal_number(x),
@@ -155,6 +173,15 @@ fn pack_loop(answer: LoopAnswer) -> u64
     match answer {
         LoopAnswer::Refused(x) => refusal_number(x),
         LoopAnswer::Given(l) => pack_loops(l),
+    }
+}
+
+fn pack_text(answer: WriteAnswer) -> u64
+    ensures { λ r. ⌜ r ≡ word kinds-of-text (write-numbers answer) ⌝ }
+{
+    match answer {
+        WriteAnswer::Refused(x) => refusal_number(x),
+        WriteAnswer::Written(length) => (length as u64) % 4294967296 * LENGTH,
     }
 }
 
