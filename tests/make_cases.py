@@ -4,9 +4,10 @@
 Run it at the repository's root: python3 tests/make_cases.py. It needs the standard library alone, and writes the same files every time.
 
 Each case is a question line with the answer line that document 01 ("the paper") asks for, with request 2 of document 02 where a DO is run,
-or request 1 of it with the forms of docs/TEXT.md where a class text is read. The answers are written here by hand, from those; none is
-taken from the program. Sheets are put together by the small functions below, which only lay out bytes; they know no rule of the paper
-but its layouts. Five cases search all of 2 to the 20th configurations, which takes compiled code seconds; `rt try` runs out of its own
+or request 1 or 3 of it with the forms of docs/TEXT.md where a class text is read or written. The answers are written here by hand, from
+those; none is taken from the program. Sheets are put together by the small functions below, which only lay out bytes; they know no rule of
+the paper but its layouts. Texts are spelled out; only where a sheet's text is read back is it laid out by a function, `spelt`, which is held
+to texts that are spelled out. Five cases search all of 2 to the 20th configurations, which takes compiled code seconds; `rt try` runs out of its own
 limits there, and says so, on the interpreter and where it checks the compiler's assumptions.
 """
 import os
@@ -1235,11 +1236,13 @@ def read(text, lists, sheet_buffer, table_buffer):
     return "read " + " ".join(hexed(b) for b in (text, *lists, sheet_buffer, table_buffer))
 
 
-ROOM, TABLE = b"\x5a" * 20000, b"\xa5" * 2000
+ROOM, TABLE = b"\x5a" * 40000, b"\xa5" * 2000
+READ_SHEETS = []
 
 
 def reads(text, lists, s, *own):
     """The text is read as the sheet s, with these own states; three bytes behind the sheet are kept, and one behind the table."""
+    READ_SHEETS.append((lists, s, own))
     t = named(*own)
     case(read(text, lists, ROOM[:len(s) + 3], TABLE[:len(t) + 1]), "read %d %d %s5a5a5a %sa5" % (len(s), len(own), s.hex(), t.hex()))
 
@@ -1569,6 +1572,7 @@ def few(n, letter="n"):
 
 def limited(text, lists, s, *own):
     """The text is read, in buffers that just suffice."""
+    READ_SHEETS.append((lists, s, own))
     t = named(*own)
     case(read(text, lists, ROOM[:len(s)], TABLE[:len(t)]), "read %d %d %s %s" % (len(s), len(own), s.hex(), t.hex()))
 
@@ -1625,6 +1629,486 @@ unread(18, H + "when " + "not " * 17 + a + " move_to A", PQ, 0, 0)
 unread(18, SMALL_TEXT, (few(33), b"", b""), 0, 0)
 unread(15, SMALL_TEXT, PQ, 0, 0)
 
+# ------------------------------------------------------------------------------------------------------------------ class texts that are written
+
+
+def write(s, own_name, own, lists, buffer):
+    """The own name and the table of own states are bytes; the lists are child state names, commands and child classes."""
+    return "write " + " ".join(hexed(b) for b in (s, own_name, own, *lists, buffer))
+
+
+def writes(text, s, lists, own_name, *own, kept=3):
+    """The class of the sheet s is written as this text, and so many bytes behind it are kept."""
+    t, behind = text.encode(), b"\x5a" * kept
+    case(write(s, record(own_name), named(*own), lists, b"\xa5" * len(t) + behind), "written %d %s" % (len(t), (t + behind).hex()))
+
+
+def unwritten(number, s, own_name, own, lists, m=4):
+    """The names, as bytes, or the sheet are refused, and the buffer of m bytes is as it was."""
+    case(write(s, own_name, own, lists, ROOM[:m]), "refused %d %s" % (number, hexed(ROOM[:m])))
+
+
+# sheet A; room that just suffices, one byte too few, none, more than enough
+X_PRESS = record("PRESS")
+assert len(PRESS) == 162
+writes(PRESS, A, HEATERS, "PRESS", "READY", "HOLD")
+writes(PRESS, A, HEATERS, "PRESS", "READY", "HOLD", kept=0)
+writes(PRESS, A, HEATERS, "PRESS", "READY", "HOLD", kept=1000)
+unwritten(15, A, X_PRESS, OWN, HEATERS, 161)
+unwritten(15, A, X_PRESS, OWN, HEATERS, 1)
+unwritten(15, A, X_PRESS, OWN, HEATERS, 0)
+# one state and nothing else, with no list
+writes("class: $FWPART_$TOP$X\n  state: A\n", SMALLEST, (b"", b"", b""), "X", "A")
+writes("class: $FWPART_$TOP$X\n  state: A\n", SMALLEST, (b"", b"", b""), "X", "A", kept=0)
+unwritten(15, SMALLEST, record("X"), record("A"), (b"", b"", b""), 32)
+# document 000, Listing 1, byte for byte
+writes("""class: $FWPART_$TOP$RPC
+  state: ON
+    when ( $ANY$FwCHILDREN in_state ERROR ) move_to ERROR
+    action: RESET
+      do OFF $ALL$FwCHILDREN
+  state: ERROR
+    when ( $ANY$FwCHILDREN in_state ON ) move_to ON
+""", sheet([], [atom(ANY_IN, EVERYONE, 1), atom(ANY_IN, EVERYONE, 0)], [([when(0, MOVE_TO, 1)], [(0, send(1))]), ([when(1, MOVE_TO, 0)], [])]),
+       (named("ON", "ERROR"), named("RESET", "OFF"), b""), "RPC", "ON", "ERROR")
+# sheet C, whose when and if share a guard record: read back, each has its own
+FURNACE = """class: $FWPART_$TOP$PRESS
+  state: READY
+    when ( $ANY$HEATER not_in_state HOT ) move_to HOLD
+    action: c9
+      do c4 $ALL$FwCHILDREN
+      if ( $ALL$HEATER in_state HOT ) then
+        move_to HOLD
+      endif
+      do c5 $ALL$FwCHILDREN
+  state: HOLD
+    when ( $ALL$HEATER in_state HOT ) move_to READY
+"""
+FURNACES = (HEATERS[0], named(*["c%d" % m for m in range(10)]), HEATERS[2])
+UNSHARED = sheet(
+    [klass(0, 1, 2)], [atom(ANY_NOT_IN, 0, 1), atom(ALL_IN, 0, 1), atom(ALL_IN, 0, 1)],
+    [([when(0, MOVE_TO, 1)], [(9, send(4) + branch(1, go(1)) + send(5))]), ([when(2, MOVE_TO, 0)], [])])
+writes(FURNACE, C, FURNACES, "PRESS", "READY", "HOLD")
+reads(FURNACE, FURNACES, UNSHARED, "READY", "HOLD")
+writes(FURNACE, UNSHARED, FURNACES, "PRESS", "READY", "HOLD")
+# sheet B: where the text of A has an ANY, it has an ALL
+writes(PRESS.replace("$ANY$HEATER in_state", "$ALL$HEATER in_state"), B, HEATERS, "PRESS", "READY", "HOLD")
+# document 002, Listing 1, with the four states that it does not show
+writes("""class: $FWPART_$TOP$RPC_Chamber_CLASS
+  state: OFF
+    when ( ( $ANY$FwCHILDREN in_state ERROR ) or ( $ANY$FwCHILDREN in_state TRIPPED ) ) move_to ERROR
+    when ( $ANY$RPC_HV in_state {RAMPING_UP, RAMPING_DOWN} ) move_to RAMPING
+    when ( ( $ALL$RPC_LV in_state ON ) and ( $ALL$RPC_HV in_state STANDBY ) ) move_to STANDBY
+    when ( ( $ALL$RPC_HV in_state ON ) and ( $ALL$RPC_LV in_state ON ) ) move_to ON
+    when ( ( $ALL$FwCHILDREN in_state ON ) and ( $ALL$RPC_T in_state OK ) ) move_to ON
+    action: STANDBY
+      do STANDBY $ALL$RPC_HV
+      do ON $ALL$RPC_LV
+    action: OFF
+      do OFF $ALL$FwCHILDREN
+    action: ON
+      do ON $ALL$FwCHILDREN
+  state: ERROR
+  state: RAMPING
+  state: STANDBY
+  state: ON
+""", sheet(
+    [klass(2, 3, 4, 5), klass(4), klass(6)],
+    [OR, atom(ANY_IN, EVERYONE, 0), atom(ANY_IN, EVERYONE, 1), atom(ANY_IN, 0, 2, 3), AND, atom(ALL_IN, 1, 4), atom(ALL_IN, 0, 5), AND, atom(ALL_IN, 0, 4),
+     atom(ALL_IN, 1, 4), AND, atom(ALL_IN, EVERYONE, 4), atom(ALL_IN, 2, 6)],
+    [([when(0, MOVE_TO, 1), when(3, MOVE_TO, 2), when(4, MOVE_TO, 3), when(7, MOVE_TO, 4), when(10, MOVE_TO, 4)],
+      [(0, send(0, 0) + send(2, 1)), (1, send(1)), (2, send(2))])] + [([], [])] * 4),
+       CHAMBERS, "RPC_Chamber_CLASS", "OFF", "ERROR", "RAMPING", "STANDBY", "ON")
+# Listing 2, inside a class
+writes("""class: $FWPART_$TOP$C
+  state: OFF
+    action: STANDBY
+      do STANDBY $ALL$RPC_HV
+      do ON $ALL$RPC_LV
+      if ( $ALL$RPC_LV in_state ON ) then
+        do ON $ALL$RPC_HV
+        if ( $ALL$RPC_HV in_state ON ) then
+          move_to ON
+        endif
+      else
+        do STANDBY $ALL$RPC_LV
+        do STANDBY $ALL$RPC_HV
+        do STANDBY $ALL$FwCHILDREN
+      endif
+  state: ON
+""", sheet(
+    [klass(0), klass(0)], [atom(ALL_IN, 1, 0), atom(ALL_IN, 0, 0)],
+    [([], [(0, send(0, 0) + send(1, 1) + branch(0, send(1, 0) + branch(1, go(1)), send(0, 1) + send(0, 0) + send(0)))]), ([], [])]),
+       (named("ON"), named("STANDBY", "ON"), kin(("RPC_HV", 1), ("RPC_LV", 1))), "C", "OFF", "ON")
+# Listing 3, without its dots and with HVMIXED
+writes("""class: $FWPART_$TOP$TkControlGroup
+  state: ANALOG_ON_RED
+    when ( $ANY$TkPowerGroup not_in_state DIGITAL_ON_RED ) move_to LVMIXED
+  state: LVMIXED
+    when ( $ANY$TkPowerGroup in_state {ON, HVMIXED} ) move_to HVMIXED
+    when ( ( $ALL$FwCaenChannelCtrl in_state ON ) and ( $ALL$TkPowerGroup in_state ANALOG_ON_RED ) ) move_to ANALOG_ON_RED
+  state: HVMIXED
+""", GROUP, GROUPS, "TkControlGroup", "ANALOG_ON_RED", "LVMIXED", "HVMIXED")
+
+# every referrer and every statement; a stay_in_state has the state that it stands in; an else where its part is not empty; statements
+# behind a move_to
+MANIFOLD = sheet(
+    KL, [ra, rb, rc, NOT, ra, OR, ra, AND, rb, rc],
+    [([when(0, STAY), when(1, MOVE_TO, 2), when(2, DO, 1), when(3, DO, 0), when(5, STAY), when(7, MOVE_TO, 0)],
+      [(0, branch(6, send(1, 0) + branch(7, go(0)), send(0)) + go(1) + send(0, 1) + go(2)), (1, [])]),
+     ([when(0, STAY)], []),
+     ([], [(1, branch(0) + branch(1, go(0)) + branch(2, [], send(0, 1)) + branch(3, branch(0), branch(0, [], branch(1)))), (0, [])])])
+writes("""class: $FWPART_$TOP$X
+  state: A
+    when ( $ANY$K in_state P ) stay_in_state A
+    when ( $ANY$K in_state Q ) move_to C
+    when ( $ALL$L not_in_state P ) do stop
+    when ( not ( $ANY$K in_state P ) ) do go
+    when ( ( $ANY$K in_state P ) or ( ( $ANY$K in_state Q ) and ( $ALL$L not_in_state P ) ) ) stay_in_state A
+    when ( ( $ANY$K in_state Q ) and ( $ALL$L not_in_state P ) ) move_to A
+    action: go
+      if ( $ANY$K in_state P ) then
+        do stop $ALL$K
+        if ( ( $ANY$K in_state Q ) and ( $ALL$L not_in_state P ) ) then
+          move_to A
+        endif
+      else
+        do go $ALL$FwCHILDREN
+      endif
+      move_to B
+      do go $ALL$L
+      move_to C
+    action: stop
+  state: B
+    when ( $ANY$K in_state P ) stay_in_state B
+  state: C
+    action: stop
+      if ( $ANY$K in_state P ) then
+      endif
+      if ( $ANY$K in_state Q ) then
+        move_to A
+      endif
+      if ( $ALL$L not_in_state P ) then
+      else
+        do go $ALL$L
+      endif
+      if ( not ( $ANY$K in_state P ) ) then
+        if ( $ANY$K in_state P ) then
+        endif
+      else
+        if ( $ANY$K in_state P ) then
+        else
+          if ( $ANY$K in_state Q ) then
+          endif
+        endif
+      endif
+    action: go
+""", MANIFOLD, PQ, "X", "A", "B", "C")
+
+
+def guard_written(guard, *records, lists=PQ, classes=KL):
+    """A guard's text, and its records."""
+    writes("class: $FWPART_$TOP$X\n  state: A\n    when %s move_to A\n" % guard, sheet(classes, records, [([when(0, MOVE_TO, 0)], [])]), lists, "X", "A")
+
+
+# guards: brackets round every atom and every operator, however they bind
+ta, tb, tc = "( $ANY$K in_state P )", "( $ANY$K in_state Q )", "( $ALL$L not_in_state P )"
+guard_written(ta, ra)
+guard_written(f"( ( {ta} and {tb} ) and {tc} )", AND, AND, ra, rb, rc)
+guard_written(f"( {ta} and ( {tb} and {tc} ) )", AND, ra, AND, rb, rc)
+guard_written(f"( ( {ta} or {tb} ) or {tc} )", OR, OR, ra, rb, rc)
+guard_written(f"( {ta} or ( {tb} or {tc} ) )", OR, ra, OR, rb, rc)
+guard_written(f"( {ta} or ( {tb} and {tc} ) )", OR, ra, AND, rb, rc)
+guard_written(f"( ( {ta} or {tb} ) and {tc} )", AND, OR, ra, rb, rc)
+guard_written(f"( not {tb} )", NOT, rb)
+guard_written(f"( not ( not {tb} ) )", NOT, NOT, rb)
+guard_written(f"( ( not {ta} ) and {tb} )", AND, NOT, ra, rb)
+guard_written(f"( not ( {ta} and {tb} ) )", NOT, AND, ra, rb)
+guard_written(f"( ( ( not {ta} ) and {tb} ) or {tc} )", OR, AND, NOT, ra, rb, rc)
+guard_written("( not " * 16 + ta + " )" * 16, *[NOT] * 16, ra)
+guard_written("( " * 16 + ta + f" and {tb} )" * 16, *[AND] * 16, ra, *[rb] * 16)
+guard_written(f"( {ta} or " * 16 + tb + " )" * 16, *[OR, ra] * 16, rb)
+# atoms: the four kinds, of a class and of all children
+guard_written("( $ANY$K in_state P )", atom(0, 0, 0))
+guard_written("( $ANY$K not_in_state P )", atom(1, 0, 0))
+guard_written("( $ALL$K in_state P )", atom(2, 0, 0))
+guard_written("( $ALL$K not_in_state P )", atom(3, 0, 0))
+guard_written("( $ANY$FwCHILDREN in_state Q )", atom(0, EVERYONE, 1))
+guard_written("( $ANY$FwCHILDREN not_in_state Q )", atom(1, EVERYONE, 1))
+guard_written("( $ALL$FwCHILDREN in_state Q )", atom(2, EVERYONE, 1))
+guard_written("( $ALL$FwCHILDREN not_in_state Q )", atom(3, EVERYONE, 1))
+# sets of one name, of two, of all 32, in rising order, also with names that the class lacks
+guard_written("( $ANY$L in_state {P, Q} )", atom(ANY_IN, 1, 1, 0))
+guard_written("( $ALL$k7 in_state n31 )", atom(ALL_IN, 7, 31), lists=MANY, classes=MANY_K)
+guard_written("( $ALL$k0 in_state {n0, n31} )", atom(ALL_IN, 0, 31, 0), lists=MANY, classes=MANY_K)
+guard_written("( $ANY$k3 not_in_state {n9, n10, n11} )", atom(ANY_NOT_IN, 3, 10, 11, 9), lists=MANY, classes=MANY_K)
+guard_written("( $ANY$FwCHILDREN in_state {%s} )" % ", ".join("n%d" % n for n in range(32)), atom(ANY_IN, EVERYONE, *range(32)), lists=MANY, classes=MANY_K)
+guard_written("( $ANY$FwCHILDREN in_state {%s} )" % ", ".join("n%d" % n for n in range(31)), atom(ANY_IN, EVERYONE, *range(31)), lists=MANY, classes=MANY_K)
+guard_written("( $ANY$FwCHILDREN in_state {%s} )" % ", ".join("n%d" % n for n in range(1, 32, 2)), atom(ANY_IN, EVERYONE, *range(1, 32, 2)), lists=MANY, classes=MANY_K)
+# ifs 8 deep, in then-parts and in else-parts: two blanks more for each
+DEEP_SHEETS = [[r for i in range(8) for r in branch(0, [b""] * (8 - i))[:1]] + go(0), [r for i in range(8) for r in branch(0, [], [b""] * (8 - i))[:1]] + go(0)]
+for between, records in zip(["", "%selse\n"], DEEP_SHEETS):
+    ahead = ["  " * level for level in range(3, 12)]
+    writes("class: $FWPART_$TOP$X\n  state: A\n    action: go\n" + "".join(f"{i}if {ta} then\n" + (between and between % i) for i in ahead[:8]) + ahead[8] + "move_to A\n"
+           + "".join(f"{i}endif\n" for i in reversed(ahead[:8])), sheet(KL, [ra], [([], [(0, records)])]), PQ, "X", "A")
+# names of 31 characters, one word for all, an own name that is any other; lists with names that nothing uses
+writes(f"class: $FWPART_$TOP${LONG}\n  state: {LONG}\n  state: 9\n  state: _\n", sheet(KL, [], [([], [])] * 3), PQ, LONG, LONG, "9", "_")
+writes("class: $FWPART_$TOP$W\n  state: W\n    when ( $ANY$W in_state W ) move_to W\n    action: W\n      do W $ALL$W\n",
+       sheet([klass(0)], [atom(ANY_IN, 0, 0)], [([when(0, MOVE_TO, 0)], [(0, send(0, 0))])]), (named("W"), named("W"), kin(("W", 1))), "W", "W")
+writes("class: $FWPART_$TOP$X\n  state: A\n", SMALLEST, (few(32), few(64, "c"), b""), "X", "A")
+for own_name in ["A", "P", "go", "K"]:
+    writes(f"class: $FWPART_$TOP${own_name}\n  state: A\n", sheet(KL, [], [([], [])]), PQ, own_name, "A")
+# 32 states; commands 0 and 63
+writes("class: $FWPART_$TOP$X\n" + "".join(f"  state: s{q}\n    action: c63\n      do c0 $ALL$k7\n      move_to s{31 - q}\n" for q in range(32)),
+       sheet(MANY_K, [], [([], [(63, send(0, 7) + go(31 - q))]) for q in range(32)]), MANY, "X", *OWN32)
+# the longest sheet
+
+
+def numbered(i, n):
+    """The atom that is record n of the longest sheet, whose pattern is class i."""
+    return "( %s$k%d %s n%d )" % (("$ANY", "$ALL")[n % 4 // 2], i, ("in_state", "not_in_state")[n % 2], n % 32)
+
+
+writes("class: $FWPART_$TOP$X\n" + "".join(
+    f"  state: s{q}\n" + "".join(f"    when {numbered(i, 8 * q + i)} move_to s{i}\n" for i in range(8))
+    + "".join(f"    action: c{8 * i}\n      do c63 $ALL$k{i}\n      if {numbered(i, 1000 + i)} then\n        move_to s31\n      endif\n      do c0 $ALL$FwCHILDREN\n"
+              for i in range(8)) for q in range(32)), LONGEST, (few(32), few(64, "c"), kin(*[("k%d" % k, 1 << k) for k in range(8)])), "X", *OWN32)
+
+# ------------------------------------------------------------------------------------------------------------------ 19: guard records that are written
+
+
+def used(records, places, ifs=()):
+    """One state with a when for each place, and an action clause with an empty if for each of the others."""
+    return sheet(KL, records, [([when(p, STAY) for p in places], [(0, [r for p in ifs for r in branch(p)])] if ifs else [])])
+
+
+def used_text(guards, ifs=()):
+    return ("class: $FWPART_$TOP$X\n  state: A\n" + "".join(f"    when {g} stay_in_state A\n" for g in guards)
+            + ("    action: go\n" if ifs else "") + "".join(f"      if {g} then\n      endif\n" for g in ifs))
+
+
+def full(depth):
+    """A guard of 2 to the depth plus 1, less 1, records: its records, and its text."""
+    if depth == 0:
+        return [ra], ta
+    records, text = full(depth - 1)
+    return [AND] + records * 2, f"( {text} and {text} )"
+
+
+X, OWN_A, AB = record("X"), record("A"), named("A", "B")
+FOUR, T4 = [NOT, NOT, NOT, ra], f"( not ( not ( not {ta} ) ) )"
+FULL, TF = full(7)
+assert len(FULL) == 255
+# a guard of 255 records four times, and one of 4: 1,024; with one of 5, 1,025
+writes(used_text([TF] * 4 + [T4]), used(FULL + FOUR, [0] * 4 + [255]), PQ, "X", "A")
+unwritten(19, used(FULL + [NOT] + FOUR, [0] * 4 + [255]), X, OWN_A, PQ)
+# one of 4 records 256 times, and so with an if more
+writes(used_text([T4] * 256), used(FOUR, [0] * 256), PQ, "X", "A")
+unwritten(19, used(FOUR, [0] * 256, [3]), X, OWN_A, PQ)
+# ifs alone: 1,024 of one record; 512 of two, and one of one more
+writes(used_text([], [ta] * 1024), used([ra], [], [0] * 1024), PQ, "X", "A")
+writes(used_text([], [f"( not {ta} )"] * 512), used([NOT, ra], [], [0] * 512), PQ, "X", "A")
+unwritten(19, used([NOT, ra], [], [0] * 512 + [1]), X, OWN_A, PQ)
+# in nested ifs and in other states too: 1,024, and one more
+writes(f"""class: $FWPART_$TOP$X
+  state: A
+    when {TF} stay_in_state A
+    when {TF} stay_in_state A
+  state: B
+    when {TF} stay_in_state B
+    action: go
+      if {TF} then
+        if {ta} then
+        endif
+        if {ta} then
+        endif
+      else
+        if {ta} then
+          if {ta} then
+          endif
+        endif
+      endif
+""", sheet(KL, FULL, [([when(0, STAY)] * 2, []), ([when(0, STAY)], [(0, branch(0, branch(254) * 2, branch(253, branch(254))))])]), PQ, "X", "A", "B")
+unwritten(19, sheet(KL, FULL, [([when(0, STAY)] * 2, []), ([when(0, STAY)], [(0, branch(0, branch(254) * 2, branch(253, branch(254), branch(254))))])]), X, AB, PQ)
+# 1,024 records that are used once each; one of them a second time
+writes(used_text([T4] * 256), used(FOUR * 256, range(0, 1024, 4)), PQ, "X", "A")
+unwritten(19, used(FOUR * 256, range(0, 1024, 4), [1023]), X, OWN_A, PQ)
+# records that nothing uses are not counted, and not written
+writes(used_text([ta]), used([ra] * 1024, [1023]), PQ, "X", "A")
+writes(used_text([T4]), used(FULL * 4 + FOUR, [1020]), PQ, "X", "A")
+writes("class: $FWPART_$TOP$X\n  state: A\n", with_guards(*[NOT] * 1024), (PQ[0], b"", kin(("K", 3))), "X", "A")
+# a guard that begins inside another
+writes(used_text([T4, f"( not ( not {ta} ) )", f"( not {ta} )", ta]), used(FOUR, [0, 1, 2, 3]), PQ, "X", "A")
+
+# ------------------------------------------------------------------------------------------------------------------ 17: the names of a text to be written
+
+ALIKE = sheet(KL, [ra], [([when(0, MOVE_TO, 1)], [(1, send(0, 1))]), ([], [])])
+ALIKE_TEXT = "class: $FWPART_$TOP$X\n  state: A\n    when ( $ANY$K in_state P ) move_to B\n    action: stop\n      do go $ALL$L\n  state: B\n"
+writes(ALIKE_TEXT, ALIKE, PQ, "X", "A", "B")
+ILL = [bytes(32), b"x" * 32, b"\x00x".ljust(32, b"\x00"), b"x\x00y".ljust(32, b"\x00"), b"x-y".ljust(32, b"\x00"), b"x ".ljust(32, b"\x00"), b"$x".ljust(32, b"\x00"),
+       b"state".ljust(32, b"\x00"), b"TOP".ljust(32, b"\x00"), b"action:".ljust(32, b"\x00"), b"\xc3\xa9".ljust(32, b"\x00"), b"FwCHILDREN".ljust(32, b"\x00")]
+# the own name: one record, well formed
+for own_name in ILL + [b"", b"X", record("X")[:31], record("X") + b"\x00", record("X") * 2, record("X") + record("Y")]:
+    unwritten(17, ALIKE, own_name, AB, PQ)
+# the table: as many records as states, well formed, no name twice
+for own in [record("A") + n for n in ILL] + [n + record("B") for n in ILL] + [
+        b"", named("A"), named("A", "B", "C"), named("A", "A"), AB[:63], AB + b"\x00", AB + bytes(32), named("A", "B") * 2]:
+    unwritten(17, ALIKE, X, own, PQ)
+writes(ALIKE_TEXT.replace("A\n", "a\n", 1), ALIKE, PQ, "X", "a", "B")
+# each list: part records, an ill-formed name, a name twice, used or not
+for at in range(3):
+    extra = u32(1) if at == 2 else b""
+
+    def listed(b):
+        return tuple(b if i == at else PQ[i] for i in range(3))
+
+    for name in ILL:
+        unwritten(17, ALIKE, X, AB, listed(PQ[at] + name + extra))
+        unwritten(17, ALIKE, X, AB, listed(name + extra + PQ[at][32 + len(extra):]))
+    unwritten(17, ALIKE, X, AB, listed(PQ[at][:-1]))
+    unwritten(17, ALIKE, X, AB, listed(PQ[at] + b"\x00"))
+    unwritten(17, ALIKE, X, AB, listed(PQ[at] + PQ[at]))
+    unwritten(17, ALIKE, X, AB, listed(PQ[at] + PQ[at][:32 + len(extra)]))
+# a class's set bit without a name; exactly the sheet's classes, in their order, with their sets
+unwritten(17, ALIKE, X, AB, (named("P"), PQ[1], PQ[2]))
+unwritten(17, ALIKE, X, AB, (b"", PQ[1], PQ[2]))
+for classes in [kin(("K", 3)), kin(("K", 3), ("L", 2), ("M", 1)), b"", kin(("K", 2), ("L", 3)), kin(("L", 2), ("K", 3)), kin(("K", 3), ("L", 3)), kin(("K", 1), ("L", 2)),
+                kin(("K", 3), ("L", 0)), kin(("K", 3), ("L", names(1, 31))), kin(("K", 7), ("L", 2))]:
+    unwritten(17, ALIKE, X, AB, (named("P", "Q", "R"), PQ[1], classes))
+unwritten(17, SMALLEST, X, OWN_A, (named("P"), b"", kin(("K", 1))))
+writes(ALIKE_TEXT, ALIKE, (named("P", "Q", "R"), named("go", "stop", "more"), PQ[2]), "X", "A", "B")
+writes(ALIKE_TEXT.replace("$L", "$K_").replace("$K ", "$L_ "), ALIKE, (PQ[0], PQ[1], kin(("L_", 3), ("K_", 2))), "X", "A", "B")
+# over 32 child state names, over 64 commands
+unwritten(17, SMALLEST, X, OWN_A, (few(33), b"", b""))
+unwritten(17, SMALLEST, X, OWN_A, (few(1000), b"", b""))
+unwritten(17, SMALLEST, X, OWN_A, (b"", few(65, "c"), b""))
+unwritten(17, SMALLEST, X, OWN_A, (b"", few(1000, "c"), b""))
+unwritten(17, SMALLEST, X, OWN_A, (b"", b"", kin(*[("k%d" % k, 1) for k in range(9)])))
+# a command without a name: of an action clause, of a do, of a do in each part of an if, behind a move_to
+ONLY = (named("P", "Q"), named("go"), PQ[2])
+for actions in [[(1, [])], [(0, []), (1, [])], [(0, send(1))], [(0, branch(0, send(1)))], [(0, branch(0, [], send(1)))], [(0, branch(0, branch(0, [], go(0) + send(1))))],
+                [(63, [])], [(0, send(0) + send(63))], [(0, go(0) + send(2))]]:
+    unwritten(17, sheet(KL, [ra], [([], actions)]), X, OWN_A, ONLY)
+    unwritten(17, sheet(KL, [ra], [([], [])] * 2 + [([], actions)]), X, named("A", "B", "C"), ONLY)
+writes("class: $FWPART_$TOP$X\n  state: A\n    when ( $ANY$K in_state P ) do go\n    action: go\n", sheet(KL, [ra], [([when(0, DO, 0)], [(0, [])])]), ONLY, "X", "A")
+unwritten(17, sheet([], [], [([], [(0, [])])]), X, OWN_A, (b"", b"", b""))
+# a set bit without a name: in the guard of a when, of an if, at an operand, in the set of all children
+for records in [[atom(ANY_IN, 0, 2)], [atom(ANY_IN, 0, 0, 1, 2)], [atom(ANY_IN, EVERYONE, 31)], [AND, ra, atom(ALL_IN, 1, 0, 2)], [NOT, OR, atom(ALL_NOT_IN, 1, 2), ra]]:
+    unwritten(17, used(records, [0]), X, OWN_A, PQ)
+    unwritten(17, used(records, [], [0]), X, OWN_A, PQ)
+    unwritten(17, used([ra] + records, [0], [0, 0, 1]), X, OWN_A, PQ)
+    unwritten(17, sheet(KL, [rb] + records, [([], []), ([], [(1, branch(0, [], branch(0, branch(1))))])]), X, AB, PQ)
+    # not in a record that nothing uses
+    writes(used_text([tb]), used([rb] + records, [0]), PQ, "X", "A")
+    writes(used_text([tb]), used(records + [rb], [len(records)]), PQ, "X", "A")
+# an operator that nothing uses, of whose operands one is used
+writes(used_text([ta]), used([AND, atom(ANY_IN, 0, 2), ra], [2]), PQ, "X", "A")
+# no list of names is needed where no set is written and no class is there
+writes("class: $FWPART_$TOP$X\n  state: A\n    action: go\n      move_to A\n", sheet([], [atom(ANY_IN, EVERYONE, 5)], [([], [(0, go(0))])]), (b"", named("go"), b""), "X", "A")
+
+# ------------------------------------------------------------------------------------------------------------------ a text to be written: the order of the refusals
+
+# each of the sheet's own refusals, before 17, 19 and 15
+SHEETS_REFUSED = [
+    (1, b""), (1, SMALLEST[:23]), (1, LONGEST + b"\x00"), (2, A[:59]), (3, faulty(F3, F4, F5, F6, F7, F8, F9)), (4, faulty(F4, F5, F6, F7, F8, F9)), (5, faulty(F5, F6, F7, F8, F9)),
+    (6, faulty(F6, F7, F8, F9)), (7, faulty(F7, F8, F9)), (8, faulty(F8, F9)), (9, faulty(F9))]
+FAULTY = (named("P", "Q"), named("go"), kin(("K", 1), ("L", 2)))
+for number, s in SHEETS_REFUSED:
+    unwritten(number, s, X, AB, FAULTY, 400)
+    unwritten(number, s, b"", b"", (b"\x01", b"\x02", b"\x03"), 0)
+writes("""class: $FWPART_$TOP$X
+  state: A
+    when ( $ANY$FwCHILDREN in_state P ) stay_in_state A
+    action: go
+      do go $ALL$K
+  state: B
+    when ( $ANY$FwCHILDREN in_state P ) stay_in_state B
+    action: go
+      do go $ALL$FwCHILDREN
+""", faulty(), FAULTY, "X", "A", "B")
+# 17 before 19 before 15
+OVER = used(FOUR, [0] * 256, [3])
+unwritten(17, OVER, X, OWN_A, (PQ[0], b"", PQ[2]))
+unwritten(17, OVER, b"", OWN_A, PQ, 0)
+unwritten(17, OVER, X, OWN_A, (PQ[0], named("go", "go"), PQ[2]), 0)
+unwritten(17, used([NOT, NOT, NOT, atom(ANY_IN, 0, 2)], [0] * 256, [3]), X, OWN_A, PQ, 0)
+unwritten(17, ALIKE, X, named("A"), PQ, 0)
+unwritten(19, OVER, X, OWN_A, PQ, 0)
+unwritten(19, OVER, X, OWN_A, PQ, 40000)
+unwritten(15, used(FOUR, [0] * 256), X, OWN_A, PQ, 0)
+unwritten(15, ALIKE, X, AB, PQ, 0)
+unwritten(15, ALIKE, X, AB, PQ, len(ALIKE_TEXT) - 1)
+
+# ------------------------------------------------------------------------------------------------------------------ texts written and read
+
+
+def parts(s):
+    """The records of each body of a sheet."""
+    starts = [(s[4 * i] + 256 * s[4 * i + 1], s[4 * i + 2] + 256 * s[4 * i + 3]) for i in range(6)]
+    return [[s[at:at + size] for at in range(start, start + length, size)] for (start, length), size in zip(starts, (4, 4, 4, 8, 4, 8))]
+
+
+def spelt(s, lists, own_name, *own):
+    """The text of a sheet, record by record."""
+    _, states, whens, guards, actions, statements = parts(s)
+    name, command, kind = ([b[i:i + 32].rstrip(b"\x00").decode() for i in range(0, len(b), size)] for b, size in zip(lists, (32, 32, 36)))
+    lines, whens, actions, statements, at = ["class: $FWPART_$TOP$" + own_name], iter(whens), iter(actions), iter(statements), 0
+
+    def relatives(pattern):
+        return "FwCHILDREN" if pattern == EVERYONE else kind[pattern]
+
+    def guard():
+        nonlocal at
+        r, at = guards[at], at + 1
+        if r[0] == 6:
+            return "( not " + guard() + " )"
+        if r[0] > 3:
+            return "( " + guard() + (" and " if r[0] == 4 else " or ") + guard() + " )"
+        members = [name[n] for n in range(32) if r[4 + n // 8] >> n % 8 & 1]
+        members = members[0] if len(members) == 1 else "{" + ", ".join(members) + "}"
+        return "( " + ("$ANY$" if r[0] < 2 else "$ALL$") + relatives(r[1]) + (" not_in_state " if r[0] % 2 else " in_state ") + members + " )"
+
+    def guard_from(low, high):
+        nonlocal at
+        at = low + 256 * high
+        return guard()
+
+    def body(count, level):
+        while count:
+            r, count = next(statements), count - 1
+            if r[0] == 0:
+                lines.append("  " * level + "do " + command[r[1]] + " $ALL$" + relatives(r[2]))
+            elif r[0] == 1:
+                lines.append("  " * level + "move_to " + own[r[1]])
+            else:
+                then, other = r[4] + 256 * r[5], r[6] + 256 * r[7]
+                lines.append("  " * level + "if " + guard_from(r[2], r[3]) + " then")
+                body(then, level + 1)
+                if other:
+                    lines.append("  " * level + "else")
+                    body(other, level + 1)
+                lines.append("  " * level + "endif")
+                count -= then + other
+
+    for q, r in enumerate(states):
+        lines.append("  state: " + own[q])
+        mine, clauses = [next(whens) for _ in range(r[0] + 256 * r[1])], [next(actions) for _ in range(r[2] + 256 * r[3])]
+        for w in mine:
+            referrer = ["move_to " + own[w[3]] if w[2] == MOVE_TO else "", "do " + command[clauses[w[3]][0]] if w[2] == DO else "", "stay_in_state " + own[q]][w[2]]
+            lines.append("    when " + guard_from(w[0], w[1]) + " " + referrer)
+        for clause in clauses:
+            lines.append("    action: " + command[clause[0]])
+            body(clause[2] + 256 * clause[3], 3)
+    return "\n".join(lines) + "\n"
+
+
+# every sheet that a text above was read as is written, and its text read as that sheet, byte for byte
+assert spelt(A, HEATERS, "PRESS", "READY", "HOLD") == PRESS and spelt(C, FURNACES, "PRESS", "READY", "HOLD") == FURNACE and spelt(ALIKE, PQ, "X", "A", "B") == ALIKE_TEXT
+for lists, s, own in READ_SHEETS:
+    text = spelt(s, lists, "X", *own)
+    writes(text, s, lists, "X", *own, kept=1)
+    case(read(text, lists, ROOM[:len(s)], TABLE[:32 * len(own)]), "read %d %d %s %s" % (len(s), len(own), s.hex(), named(*own).hex()))
+
 # --------------------------------------------------------------------------------------------------------------------------- lines that are no questions
 
 for line in [
@@ -1639,14 +2123,18 @@ for line in [
         "command 00 - 0 0", "command 00 - 0 0 - -", "command 00 - 256 0 -", "command 00 - 0 256 -", "command 00 - 0 0 0", "command 00 - 0 0 ", "command 00 - 0 00 -",
         "command 00 0 0 0 -", "command 0 - 0 0 -", "loop 00 0", "loop 00 0 - -", "loop 00 256 -", "loop 00 - -", "loop 00 0 0", "loop x 0 -", "loop 00 0  ", "free 0", "accepted",
         "read", "read -", "read - - - - -", "read - - - - - - -", "read - - - - -  ", "read  - - - - - -", "read - - - - - ", "read - - - - - 0", "read 0 - - - - -",
-        "read - 0g - - - -", "read - - x - - -", "read - - - 0 - -", "read - - - - A0 -", "read - - - - - --", "Read - - - - - -", "reads - - - - - -", "rea - - - - - -"]:
+        "read - 0g - - - -", "read - - x - - -", "read - - - 0 - -", "read - - - - A0 -", "read - - - - - --", "Read - - - - - -", "reads - - - - - -", "rea - - - - - -",
+        "write", "write -", "write - - - - - -", "write - - - - - - - -", "write - - - - - -  ", "write  - - - - - - -", "write - - - - - - ", "write - - - - - - 0",
+        "write 0 - - - - - -", "write - 0g - - - - -", "write - - x - - - -", "write - - - 0 - - -", "write - - - - A0 - -", "write - - - - - -- -", "write - - - - - - --",
+        "Write - - - - - - -", "writes - - - - - - -", "writ - - - - - - -", "written 0 -"]:
     case(line, "bad line")
 # the same forms, right
 for line, answer in [
         ("judge 00", "refused 1"), ("judge -", "refused 1"), ("judge 0123456789abcdef", "refused 1"), ("probe 00 - 0", "refused 1"), ("probe 00 - 255", "refused 1"),
         ("probe - - 10", "refused 1"), ("phase 00 00 100 -", "refused 1 -"), ("phase 00 - 99 0123456789abcdef", "refused 1 0123456789abcdef"), ("command - - 0 0 -", "refused 1 -"),
         ("command - 00 255 255 00ff", "refused 1 00ff"), ("loop - 0 -", "refused 1 -"), ("loop 00 255 0123456789abcdef", "refused 1 0123456789abcdef"),
-        ("read - - - - - -", "refused 16 0 - -"), ("read 00 00 00 00 00ff ff00", "refused 16 0 00ff ff00"), ("read 20 - - - - 0123456789abcdef", "refused 16 1 - 0123456789abcdef")]:
+        ("read - - - - - -", "refused 16 0 - -"), ("read 00 00 00 00 00ff ff00", "refused 16 0 00ff ff00"), ("read 20 - - - - 0123456789abcdef", "refused 16 1 - 0123456789abcdef"),
+        ("write - - - - - - -", "refused 1 -"), ("write 00 00 00 00 00 00 00ff", "refused 1 00ff"), ("write - 00 - 00 - 00 0123456789abcdef", "refused 1 0123456789abcdef")]:
     case(line, answer)
 # a line of 1,048,576 bytes is read, one of 1,048,577 is not, and the line behind it is answered
 case("judge " + "ab" * 524285, "refused 1")
@@ -1660,6 +2148,9 @@ DEEP_LISTS = (named("P"), named("go"), kin(("K", 1)))
 DEEP_SHEET = sheet([klass(0)], [atom(ANY_IN, 0, 0)], [([when(0, MOVE_TO, 0)], [])])
 DEEP = H + "when " + "(" * 262000 + "$ANY$K in_state P" + ")" * 262000 + " move_to A"
 limited(DEEP + " " * (524283 - len(DEEP) - 32 - 32 - 36 - len(DEEP_SHEET) - 32), DEEP_LISTS, DEEP_SHEET, "A")
+assert len(QUESTIONS[-1]) == 1048576
+# and with one that is written, into a buffer as long as the line allows
+writes(PRESS, A, (HEATERS[0], named("go"), HEATERS[2]), "PRESS", "READY", "HOLD", kept=523800)
 assert len(QUESTIONS[-1]) == 1048576
 
 # --------------------------------------------------------------------------------------------------------------------------- the files

@@ -1,33 +1,24 @@
 -- Laws about question lines: what each field that is read, and each question that is put, makes of the line that is written.
 -- Assumes nothing.
-use Prim.Native.Nat.{ℕ, _+_, _≤_, _<_}
+use Prim.Native.Nat.{ℕ, _≤_, _<_}
 use native.Mathlib.Omega.{arith}
 use mathlib.Core.Path.{_≡_, refl, sym, _∙_, ap}
-use mathlib.Core.Bool.{Bool, true, false, not, _&&_}
-use mathlib.Core.List.{List, [], _∷_, _++_}
+use mathlib.Core.Bool.{Bool, true, false, _&&_}
+use mathlib.Core.List.{List, [], _∷_}
 use lib.Dec.{eqb}
-use lib.ListN.{length, take, drop}
-use lib.Seq.{sets-eq, length-sets, take-at}
+use lib.ListN.{length}
 use borrow.Author.Tests.{eq-eqb, eqb-true, le-leb, lt-leb}
 use Rattle.model.proofs.Words.{both-ways, and-left, and-right}
 use Rattle.bargewicker.specs.Questions.{judge, probe-in, phase-from, command-in, loop-with, reply}
 use Rattle.model.specs.Replies.{Answered}
 use Rattle.bargewicker.specs.Numbers.{values, numbers-for}
-use Rattle.model.specs.Answers.{read-numbers}
-use Rattle.model.specs.declared.ReadAnswer.{ReadAnswer}
-use Rattle.model.specs.declared.ReadAnswer.the-variants as R
-use Rattle.readings.specs.Readings.{Lent, Outcome}
-use Rattle.readings.specs.Promise as Promise
-use Rattle.readings.specs.Promise.{reading-as, came}
-use Rattle.readings.specs.Computed.{computed, numbers-in}
-use Rattle.readings.proofs.ComputedLaws.{answer-computed}
 use Rattle.texts.specs.Texts.{Appended}
-use Rattle.texts.specs.Fields.{occurs, number-of, string-right, string-bytes, Decodes}
+use Rattle.texts.specs.Fields.{occurs, number-of}
 use Rattle.texts.specs.declared.reading.Number.{Number}
 use Rattle.texts.specs.declared.reading.Number.the-variants.{Is, Bad}
-use Rattle.texts.specs.declared.reading.Decoded.{Decoded}
-use Rattle.lines.specs.Lines.{bad-line, judge-text, probe-text, phase-line, command-line, loop-line, read-line}
-use Rattle.asking.specs.Asking.{judge-verb, loop-verb, probe-verb, phase-verb, command-verb, read-verb, same-bytes, is-form, verb-of, first, others, with-string, on-number, with-number, line-of, line-of-text, sending-from, placed-answer, sheet-answer, fields-answer, answer-line}
+use Rattle.lines.specs.Lines.{bad-line, judge-text, probe-text, phase-line, command-line, loop-line}
+use Rattle.strings.specs.Strings.{first, others}
+use Rattle.asking.specs.Asking.{judge-verb, loop-verb, probe-verb, phase-verb, command-verb, read-verb, write-verb, same-bytes, is-form, verb-of, on-number, with-number, line-of, sending-from, placed-answer, sheet-answer, fields-answer, answer-line}
 use Rattle.asking.specs.declared.Asked.{Asked}
 use Rattle.asking.specs.declared.Asked.the-variants as A
 use Rattle.asking.specs.declared.Sending.{Sending}
@@ -86,42 +77,17 @@ module _ (v : List ℕ) (n : ℕ) where
   unfolding verb-of
   verb-read a b c d e f = rw (a, b, c, d, e, f)
 
-  pub verb-other : is-form v judge-verb n 1 ≡ false → is-form v loop-verb n 3 ≡ false → is-form v probe-verb n 3 ≡ false → is-form v phase-verb n 4 ≡ false
-      → is-form v command-verb n 5 ≡ false → is-form v read-verb n 6 ≡ false → W.Other ≡ verb-of v n
+  pub verb-write : is-form v judge-verb n 1 ≡ false → is-form v loop-verb n 3 ≡ false → is-form v probe-verb n 3 ≡ false → is-form v phase-verb n 4 ≡ false
+      → is-form v command-verb n 5 ≡ false → is-form v read-verb n 6 ≡ false → is-form v write-verb n 7 ≡ true → W.Write ≡ verb-of v n
   unfolding verb-of
-  verb-other a b c d e f = rw (a, b, c, d, e, f)
+  verb-write a b c d e f g = rw (a, b, c, d, e, f, g)
+
+  pub verb-other : is-form v judge-verb n 1 ≡ false → is-form v loop-verb n 3 ≡ false → is-form v probe-verb n 3 ≡ false → is-form v phase-verb n 4 ≡ false
+      → is-form v command-verb n 5 ≡ false → is-form v read-verb n 6 ≡ false → is-form v write-verb n 7 ≡ false → W.Other ≡ verb-of v n
+  unfolding verb-of
+  verb-other a b c d e f g = rw (a, b, c, d, e, f, g)
 
 -- ---- fields
-
-flipped : (b c : Bool) → not b ≡ c → b ≡ not c
-flipped true c e = ap not e
-flipped false c e = ap not e
-
--- a string of bytes, wrong or read
-module _ (l m : List ℕ) (end : ℕ) (f field before after : List ℕ) (r : Decoded) (rest : List ℕ → List ℕ → List ℕ) (e : field ≡ first f) (d : Decodes field before after r)
-    (k : length before ≡ 524288) where
-  right-is : r .right ≡ string-right 524288 (first f)
-  right-is = let h = d .right in rw (k, e) at h
-
-  pub string-wrong : not (r .right) ≡ true → Appended l m 0 bad-line end → Appended l m 0 (with-string f rest) end
-  unfolding with-string
-  string-wrong h a = let g : string-right 524288 (first f) ≡ false = sym right-is ∙ flipped (r .right) true h in rw g a
-
-  part-is : r .length ≤ length after → take (r .length) after ≡ string-bytes 524288 (first f)
-  part-is c =
-      let s : List ℕ = string-bytes (length before) field in
-      let x : length after ≡ length before = ap length (d .buffer) ∙ length-sets before 0 s in
-      let y : after ≡ s ++ drop (0 + length s) before = d .buffer ∙ sets-eq s before 0 (omega (arith, d .length)) in
-      let z : take (r .length) after ≡ s = ap (take (r .length)) y ∙ take-at s (drop (0 + length s) before) (r .length) (sym (d .length)) in
-      rw (k, e) at z
-
-  pub string-read : r .length ≤ length after → not (r .right) ≡ false → (g : List ℕ) → g ≡ others f → Appended l m 0 (rest (take (r .length) after) g) end
-      → Appended l m 0 (with-string f rest) end
-  unfolding with-string
-  string-read c h g x a =
-      let y : string-right 524288 (first f) ≡ true = sym right-is ∙ flipped (r .right) false h in
-      let z : Appended l m 0 (rest (string-bytes 524288 (first f)) (others f)) end = rw (part-is c, x) at a in
-      rw y z
 
 -- a number, wrong or read
 module _ (l m : List ℕ) (end : ℕ) (f field : List ℕ) (r : Number) (rest : ℕ → List ℕ → List ℕ) (e : field ≡ first f) (v : r ≡ number-of field) where
@@ -163,22 +129,6 @@ module _ (l m : List ℕ) (end : ℕ) (ns : List ℕ) where
       → Appended l m 0 (sheet-answer v b f) end
   unfolding line-of sheet-answer
   judge-put v b f h e a = rw h (rw e at a)
-
--- the numbers of an answer to a class text
-numbers-read : (r : ReadAnswer) → read-numbers r ≡ numbers-in (reading-as r)
-numbers-read (R.Refused x) = refl
-numbers-read (R.WrongWord place) = refl
-numbers-read (R.Read length states) = refl
-
-pub text-put : (l m : List ℕ) (end : ℕ) (q : Lent) (r : ReadAnswer) (sheet table : List ℕ) → Promise.Answered q r sheet table → Appended l m 0 (read-line (read-numbers r) sheet table) end
-    → Appended l m 0 (line-of-text q) end
-unfolding line-of-text
-text-put l m end q r sheet table h a =
-    let e : came r sheet table ≡ computed q = answer-computed q (came r sheet table) h in
-    let u : reading-as r ≡ computed q .reading = ap (λ (o : Outcome). o .reading) e in
-    let v : sheet ≡ computed q .sheet = ap (λ (o : Outcome). o .sheet) e in
-    let w : table ≡ computed q .table = ap (λ (o : Outcome). o .table) e in
-    rw (numbers-read r ∙ ap numbers-in u, v, w) at a
 
 -- the same kind of question, and the same verb, are answered the same
 module _ (l m : List ℕ) (end : ℕ) where

@@ -1,6 +1,6 @@
 -- The line that answers a question line: `judge SHEET`, `probe SHEET LIST STATE`, `phase SHEET LIST STATE BUFFER`,
--- `command SHEET LIST STATE COMMAND BUFFER`, `loop SHEET PRESENT BUFFER`, `read TEXT NAMES COMMANDS CLASSES SHEET TABLE`, the fields parted by
--- one space; of any other line `bad line`.
+-- `command SHEET LIST STATE COMMAND BUFFER`, `loop SHEET PRESENT BUFFER`, `read TEXT NAMES COMMANDS CLASSES SHEET TABLE`,
+-- `write SHEET OWNNAME OWNSTATES NAMES COMMANDS CLASSES BUFFER`, the fields parted by one space; of any other line `bad line`.
 -- Assumes nothing.
 use Prim.Native.Nat.{ℕ}
 use mathlib.Core.Bool.{Bool, true, false, _&&_}
@@ -9,15 +9,15 @@ use lib.Dec.{eqb, leb}
 use lib.ListN.{length}
 use Rattle.model.specs.Words.{choose}
 use Rattle.model.specs.Replies.{buffer-after}
-use Rattle.bargewicker.specs.Questions.{Question, judge, probe-in, phase-from, command-in, loop-with, reply}
+use Rattle.bargewicker.specs.Questions.{Question, judge, probe-in, phase-from, command-in, loop-with, text-of, reply}
 use Rattle.bargewicker.specs.Numbers.{numbers-for}
-use Rattle.readings.specs.Readings.{Lent}
-use Rattle.readings.specs.Computed.{computed, numbers-in}
-use Rattle.readings.specs.Promise.{asked}
-use Rattle.texts.specs.Fields.{occurs, before, behind, number-of, string-right, string-bytes}
+use Rattle.texts.specs.Fields.{occurs, number-of}
 use Rattle.texts.specs.declared.reading.Number.{Number}
 use Rattle.texts.specs.declared.reading.Number.the-variants.{Is, Bad}
-use Rattle.lines.specs.Lines.{bad-line, judge-text, probe-text, phase-line, command-line, loop-line, read-line}
+use Rattle.lines.specs.Lines.{bad-line, judge-text, probe-text, phase-line, command-line, loop-line}
+use Rattle.strings.specs.Strings.{first, others, with-string}
+use Rattle.askread.specs.AskRead.{text-answer}
+use Rattle.askwrite.specs.AskWrite.{line-of-written, own-name-answer}
 use Rattle.asking.specs.declared.Asked.{Asked}
 use Rattle.asking.specs.declared.Asked.the-variants as A
 use Rattle.asking.specs.declared.Sending.{Sending}
@@ -44,6 +44,9 @@ loop-verb = 108 ∷ 111 ∷ 111 ∷ 112 ∷ []
 abbrev pub read-verb : List ℕ
 read-verb = 114 ∷ 101 ∷ 97 ∷ 100 ∷ []
 
+abbrev pub write-verb : List ℕ
+write-verb = 119 ∷ 114 ∷ 105 ∷ 116 ∷ 101 ∷ []
+
 -- two strings of the same bytes
 unfoldable pub same-bytes : List ℕ → List ℕ → Bool
 same-bytes [] [] = true
@@ -62,19 +65,8 @@ verb-of verb n =
     choose (is-form verb probe-verb n 3) (λ _. W.Placed A.Probe) λ _.
     choose (is-form verb phase-verb n 4) (λ _. W.Placed A.Phase) λ _.
     choose (is-form verb command-verb n 5) (λ _. W.Placed A.Command) λ _.
-    choose (is-form verb read-verb n 6) (λ _. W.Read) λ _. W.Other
-
--- the first field of some, and the others
-abbrev pub first : List ℕ → List ℕ
-first = before 32
-
-abbrev pub others : List ℕ → List ℕ
-others = behind 32
-
--- the first of some fields as a string of bytes, and what it and the others are answered; a line of at most 1,048,576 bytes has no
--- string of more than 524,288
-unfoldable pub with-string : List ℕ → (List ℕ → List ℕ → List ℕ) → List ℕ
-with-string f rest = choose (string-right 524288 (first f)) (λ _. rest (string-bytes 524288 (first f)) (others f)) (λ _. bad-line)
+    choose (is-form verb read-verb n 6) (λ _. W.Read) λ _.
+    choose (is-form verb write-verb n 7) (λ _. W.Write) λ _. W.Other
 
 -- the first of some fields as a number from 0 to 255
 unfoldable pub on-number : Number → (ℕ → List ℕ) → List ℕ
@@ -91,10 +83,7 @@ line-of (probe-in b l q) = probe-text (numbers-for (probe-in b l q))
 line-of (phase-from b l q out) = phase-line (numbers-for (phase-from b l q out)) (buffer-after (reply (phase-from b l q out)) out)
 line-of (command-in b l q m out) = command-line (numbers-for (command-in b l q m out)) (buffer-after (reply (command-in b l q m out)) out)
 line-of (loop-with b present out) = loop-line (numbers-for (loop-with b present out)) (buffer-after (reply (loop-with b present out)) out)
-
--- the line of a class text's answer, with both buffers after the call
-unfoldable pub line-of-text : Lent → List ℕ
-line-of-text q = read-line (numbers-in (computed q .reading)) (computed q .sheet) (computed q .table)
+line-of (text-of b n out) = line-of-written b n out
 
 -- BUFFER, lent for what a phase or a command sends
 abbrev pub sending-from : Sending → List ℕ → List ℕ → ℕ → List ℕ → Question
@@ -126,28 +115,13 @@ list-answer a b f = with-string f λ l g. state-answer a b l g
 unfoldable pub loop-answer : List ℕ → List ℕ → List ℕ
 loop-answer b f = with-number f λ p g. with-string g λ out _. line-of (loop-with b p out)
 
--- what is behind TEXT, string by string: NAMES COMMANDS CLASSES SHEET TABLE
-unfoldable pub table-answer : List ℕ → List ℕ → List ℕ → List ℕ → List ℕ → List ℕ → List ℕ
-table-answer t n c k s f = with-string f λ table _. line-of-text (asked t n c k s table)
-
-unfoldable pub buffer-answer : List ℕ → List ℕ → List ℕ → List ℕ → List ℕ → List ℕ
-buffer-answer t n c k f = with-string f λ s g. table-answer t n c k s g
-
-unfoldable pub classes-answer : List ℕ → List ℕ → List ℕ → List ℕ → List ℕ
-classes-answer t n c f = with-string f λ k g. buffer-answer t n c k g
-
-unfoldable pub commands-answer : List ℕ → List ℕ → List ℕ → List ℕ
-commands-answer t n f = with-string f λ c g. classes-answer t n c g
-
-unfoldable pub text-answer : List ℕ → List ℕ → List ℕ
-text-answer t f = with-string f λ n g. commands-answer t n g
-
 -- what is behind SHEET, or TEXT
 unfoldable pub sheet-answer : Verb → List ℕ → List ℕ → List ℕ
 sheet-answer W.Judge b f = line-of (judge b)
 sheet-answer W.Loop b f = loop-answer b f
 sheet-answer (W.Placed a) b f = list-answer a b f
 sheet-answer W.Read b f = text-answer b f
+sheet-answer W.Write b f = own-name-answer b f
 sheet-answer W.Other b f = bad-line
 
 -- a line of at most 1,048,576 bytes: its verb, SHEET or TEXT and what is behind it

@@ -1,5 +1,7 @@
 // From a line to its answer: the verb and its fields are read, the question is put, and the answer's line is written. Nothing is asked of
 // a caller beforehand. What the lines are is in specs/Asking.antt.
+use askread::ask_names;
+use askwrite::ask_own_name;
 use check::same;
 use lines::answers::bad_line;
 use lines::answers::command_line;
@@ -7,7 +9,7 @@ use lines::answers::judge_line;
 use lines::answers::loop_line;
 use lines::answers::phase_line;
 use lines::answers::probe_line;
-use readline::read_line;
+use strings::blank;
 use texts::reading::Number;
 use texts::reading::count;
 use texts::reading::decode;
@@ -15,11 +17,9 @@ use texts::reading::first_field;
 use texts::reading::other_fields;
 use texts::reading::read_number;
 ghost use mathlib.Core.Path.{_≡_};
-ghost use lib.ListN.{length};
 ghost use Rattle.bargewicker.specs.Questions.{judge, phase-from, command-in, loop-with};
-ghost use Rattle.readings.specs.Promise.{asked};
 ghost use Rattle.texts.specs.Texts.{Appended};
-ghost use Rattle.asking.specs.Asking.{is-form, verb-of, line-of, sending-from, sending-answer, command-answer, placed-answer, state-answer, list-answer, loop-answer, line-of-text, table-answer, buffer-answer, classes-answer, commands-answer, text-answer, sheet-answer, fields-answer, answer-line};
+ghost use Rattle.asking.specs.Asking.{is-form, verb-of, line-of, sending-from, sending-answer, command-answer, placed-answer, state-answer, list-answer, loop-answer, sheet-answer, fields-answer, answer-line};
 
 // The questions of a child list and a state.
 pub enum Asked {
@@ -40,6 +40,7 @@ pub enum Verb {
     Loop,
     Placed(Asked),
     Read,
+    Write,
     Other,
 }
 
@@ -72,14 +73,10 @@ fn verb_of(verb: &[u8], spaces: usize) -> Verb
     if is_form(verb, b"read", spaces, 6) {
         return Verb::Read;
     }
+    if is_form(verb, b"write", spaces, 7) {
+        return Verb::Write;
+    }
     Verb::Other
-}
-
-// Room for a string of bytes: a line of at most 1,048,576 bytes has none that is longer.
-fn blank() -> [u8; 524288]
-    ensures { λ r. ⌜ length r ≡ 524288 ⌝ }
-{
-    [0u8; 524288]
 }
 
 // The when phase is put, and its line written.
@@ -227,117 +224,6 @@ fn ask_loop(sheet: &[u8], fields: &[u8], out: &mut [u8]) -> usize
     put_loop(sheet, present, &mut lent[..n], out)
 }
 
-// The class text is read, and its line written.
-fn put_text(
-    text: &[u8],
-    names: &[u8],
-    commands: &[u8],
-    classes: &[u8],
-    sheet: &mut [u8],
-    table: &mut [u8],
-    out: &mut [u8],
-) -> usize
-    ensures { λ r. ⌜ Appended (now (out .entry)) (now (out .exit)) 0 (line-of-text (asked (now (text .entry)) (now (names .entry)) (now (commands .entry)) (now (classes .entry)) (now (sheet .entry)) (now (table .entry)))) r ⌝ }
-{
-    let answer = bargewicker::read_class(text, names, commands, classes, sheet, table);
-    read_line(answer, sheet, table, out)
-}
-
-// TABLE
-fn ask_table(
-    text: &[u8],
-    names: &[u8],
-    commands: &[u8],
-    classes: &[u8],
-    sheet: &mut [u8],
-    fields: &[u8],
-    out: &mut [u8],
-) -> usize
-    ensures { λ r. ⌜ Appended (now (out .entry)) (now (out .exit)) 0 (table-answer (now (text .entry)) (now (names .entry)) (now (commands .entry)) (now (classes .entry)) (now (sheet .entry)) (now (fields .entry))) r ⌝ }
-{
-    let mut table = blank();
-    let d = decode(first_field(fields), &mut table);
-    let n = d.length;
-    if !d.right {
-        return bad_line(out);
-    }
-    put_text(text, names, commands, classes, sheet, &mut table[..n], out)
-}
-
-// SHEET TABLE
-fn ask_buffers(
-    text: &[u8],
-    names: &[u8],
-    commands: &[u8],
-    classes: &[u8],
-    fields: &[u8],
-    out: &mut [u8],
-) -> usize
-    ensures { λ r. ⌜ Appended (now (out .entry)) (now (out .exit)) 0 (buffer-answer (now (text .entry)) (now (names .entry)) (now (commands .entry)) (now (classes .entry)) (now (fields .entry))) r ⌝ }
-{
-    let mut sheet = blank();
-    let d = decode(first_field(fields), &mut sheet);
-    let n = d.length;
-    if !d.right {
-        return bad_line(out);
-    }
-    ask_table(
-        text,
-        names,
-        commands,
-        classes,
-        &mut sheet[..n],
-        other_fields(fields),
-        out,
-    )
-}
-
-// CLASSES SHEET TABLE
-fn ask_classes(text: &[u8], names: &[u8], commands: &[u8], fields: &[u8], out: &mut [u8]) -> usize
-    ensures { λ r. ⌜ Appended (now (out .entry)) (now (out .exit)) 0 (classes-answer (now (text .entry)) (now (names .entry)) (now (commands .entry)) (now (fields .entry))) r ⌝ }
-{
-    let mut classes = blank();
-    let d = decode(first_field(fields), &mut classes);
-    let n = d.length;
-    if !d.right {
-        return bad_line(out);
-    }
-    ask_buffers(
-        text,
-        names,
-        commands,
-        &classes[..n],
-        other_fields(fields),
-        out,
-    )
-}
-
-// COMMANDS CLASSES SHEET TABLE
-fn ask_commands(text: &[u8], names: &[u8], fields: &[u8], out: &mut [u8]) -> usize
-    ensures { λ r. ⌜ Appended (now (out .entry)) (now (out .exit)) 0 (commands-answer (now (text .entry)) (now (names .entry)) (now (fields .entry))) r ⌝ }
-{
-    let mut commands = blank();
-    let d = decode(first_field(fields), &mut commands);
-    let n = d.length;
-    if !d.right {
-        return bad_line(out);
-    }
-    ask_classes(text, names, &commands[..n], other_fields(fields), out)
-}
-
-// NAMES COMMANDS CLASSES SHEET TABLE, behind TEXT.
-fn ask_names(text: &[u8], fields: &[u8], out: &mut [u8]) -> usize
-    ensures { λ r. ⌜ Appended (now (out .entry)) (now (out .exit)) 0 (text-answer (now (text .entry)) (now (fields .entry))) r ⌝ }
-{
-    let mut names = blank();
-    let d = decode(first_field(fields), &mut names);
-    let n = d.length;
-    if !d.right {
-        return bad_line(out);
-    }
-    ask_commands(text, &names[..n], other_fields(fields), out)
-}
-
 // What is behind SHEET, or TEXT.
 fn ask_sheet(verb: Verb, sheet: &[u8], fields: &[u8], out: &mut [u8]) -> usize
     ensures { λ r. ⌜ Appended (now (out .entry)) (now (out .exit)) 0 (sheet-answer verb (now (sheet .entry)) (now (fields .entry))) r ⌝ }
@@ -347,6 +233,7 @@ fn ask_sheet(verb: Verb, sheet: &[u8], fields: &[u8], out: &mut [u8]) -> usize
         Verb::Loop => ask_loop(sheet, fields, out),
         Verb::Placed(asked) => ask_list(asked, sheet, fields, out),
         Verb::Read => ask_names(sheet, fields, out),
+        Verb::Write => ask_own_name(sheet, fields, out),
         Verb::Other => bad_line(out),
     }
 }

@@ -17,7 +17,7 @@ use Rattle.model.proofs.RefusalLaws.{numbered-from-1}
 use Rattle.texts.specs.Texts.{Appended, decimal-text, number-text, hex-text}
 use Rattle.texts.proofs.Decimals.{decimal-length}
 use Rattle.texts.proofs.Appending.{appended-same}
-use Rattle.lines.specs.Lines.{refused-word, do-word, loop-word, free-word, said, empty-field, string-field, text-of, phase-text, loop-text, read-text, child-field, child-fields, is-loop, loopcheck-line}
+use Rattle.lines.specs.Lines.{refused-word, do-word, loop-word, free-word, said, empty-field, string-field, text-of, phase-text, loop-text, one-case, child-field, child-fields, is-loop, loopcheck-line}
 
 -- a refusal has the same text whatever was asked
 refusal-text : (words : List (List ℕ)) (n : ℕ) → 1 ≤ n → text-of words (n ∷ []) ≡ said refused-word (n ∷ [])
@@ -37,14 +37,15 @@ pub phase-closed : (l m : List ℕ) (end q moves n c : ℕ) → Appended l m 0 (
 unfolding text-of
 phase-closed l m end q moves n c a = appended-same l m 0 end _ _ (sym (append-nil (said do-word (q ∷ moves ∷ n ∷ c ∷ [])))) a
 
--- so of a class text that is refused for another reason than its words
-read-refusal : (n : ℕ) → 1 ≤ n → read-text (n ∷ []) ≡ said refused-word (n ∷ [])
-unfolding read-text
-read-refusal zero h = absurd (omega arith)
-read-refusal (suc n) h = refl
+-- so of an answer of one case; of a class text that is refused for another reason than its words
+case-refusal : (word : List ℕ) (n : ℕ) → 1 ≤ n → one-case word (n ∷ []) ≡ said refused-word (n ∷ [])
+unfolding one-case
+case-refusal word zero h = absurd (omega arith)
+case-refusal word (suc n) h = refl
 
-pub read-refused : (l m : List ℕ) (end : ℕ) (x : Refusal) → Appended l m 0 (said refused-word (number-of x ∷ [])) end → Appended l m 0 (read-text (number-of x ∷ [])) end
-read-refused l m end x a = rw (read-refusal (number-of x) (numbered-from-1 x)) a
+pub case-refused : (word l m : List ℕ) (end : ℕ) (x : Refusal) → Appended l m 0 (said refused-word (number-of x ∷ [])) end
+    → Appended l m 0 (one-case word (number-of x ∷ [])) end
+case-refused word l m end x a = rw (case-refusal word (number-of x) (numbered-from-1 x)) a
 
 -- a string with no bytes, and one with some
 pub no-bytes : (bytes : List ℕ) → length bytes ≡ 0 → empty-field ≡ string-field bytes

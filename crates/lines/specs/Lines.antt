@@ -44,6 +44,9 @@ free-word = 102 ∷ 114 ∷ 101 ∷ 101 ∷ []
 abbrev pub read-word : List ℕ
 read-word = 114 ∷ 101 ∷ 97 ∷ 100 ∷ []
 
+abbrev pub written-word : List ℕ
+written-word = 119 ∷ 114 ∷ 105 ∷ 116 ∷ 116 ∷ 101 ∷ 110 ∷ []
+
 -- a word and numbers behind it, a space before each
 unfoldable pub said : List ℕ → List ℕ → List ℕ
 said text [] = text
@@ -82,11 +85,19 @@ command-text = text-of (ignored-word ∷ handled-word ∷ [])
 abbrev pub loop-text : List ℕ → List ℕ
 loop-text = text-of (free-word ∷ loop-word ∷ [])
 
--- a class text that is read has one case, so no number for it; where it goes wrong, the place stands behind the 16
-unfoldable pub read-text : List ℕ → List ℕ
-read-text [] = []
-read-text (zero ∷ values) = said read-word values
-read-text (suc n ∷ values) = said refused-word (suc n ∷ values)
+-- an answer of one case has no number for it
+unfoldable pub one-case : List ℕ → List ℕ → List ℕ
+one-case word [] = []
+one-case word (zero ∷ values) = said word values
+one-case word (suc n ∷ values) = said refused-word (suc n ∷ values)
+
+-- a class text that is read; where it goes wrong, the place stands behind the 16
+abbrev pub read-text : List ℕ → List ℕ
+read-text = one-case read-word
+
+-- a class text that is written
+abbrev pub write-text : List ℕ → List ℕ
+write-text = one-case written-word
 
 -- with the lent buffer as it is after the call
 abbrev pub phase-line : List ℕ → List ℕ → List ℕ
@@ -97,6 +108,9 @@ command-line ns final = command-text ns ++ string-field final
 
 abbrev pub loop-line : List ℕ → List ℕ → List ℕ
 loop-line ns final = loop-text ns ++ string-field final
+
+abbrev pub write-line : List ℕ → List ℕ → List ℕ
+write-line ns final = write-text ns ++ string-field final
 
 -- the sheet's buffer, then that of the table of own states
 abbrev pub read-line : List ℕ → List ℕ → List ℕ → List ℕ

@@ -33,7 +33,7 @@ pub fn bad_line(out: &mut [u8]) -> usize
 }
 
 // A word and a number.
-fn say_one(word: &[u8], x: u64, out: &mut [u8]) -> usize
+pub fn say_one(word: &[u8], x: u64, out: &mut [u8]) -> usize
     ensures { λ r. ⌜ Appended (now (out .entry)) (now (out .exit)) 0 (said (now (word .entry)) (x ∷ [])) r ⌝ }
 {
     let end = append_bytes(out, 0, word);

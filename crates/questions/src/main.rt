@@ -2,6 +2,7 @@
 //
 //   judge SHEET | probe SHEET LIST STATE | phase SHEET LIST STATE BUFFER | command SHEET LIST STATE COMMAND BUFFER
 //   loop SHEET PRESENT BUFFER | read TEXT NAMES COMMANDS CLASSES SHEET TABLE
+//   write SHEET OWNNAME OWNSTATES NAMES COMMANDS CLASSES BUFFER
 //
 // Byte strings are lower-case hex, `-` for the empty one; numbers are decimal, 0 to 255; fields are parted by one space. A line that is
 // none of these, or longer than 1,048,576 bytes, is answered `bad line`. A line is answered by `asking`.

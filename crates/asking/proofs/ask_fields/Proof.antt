@@ -1,7 +1,7 @@
 -- The string, and what is behind it.
 -- Assumes nothing.
 use Rattle.asking.specs.Asking.{fields-answer}
-use Rattle.asking.proofs.AskingLaws.{string-wrong, string-read}
+use Rattle.strings.proofs.StringLaws.{string-wrong, string-read}
 use borrow.Author.Needs.{needs}
 use Rattle.asking.proofs.ask_fields.Statement.{statement}
 use Rattle.asking.proofs.ask_fields.Tie as tie

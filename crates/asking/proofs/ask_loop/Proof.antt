@@ -2,7 +2,8 @@
 -- Assumes nothing.
 use mathlib.Core.Path.{refl}
 use Rattle.asking.specs.Asking.{loop-answer}
-use Rattle.asking.proofs.AskingLaws.{number-wrong, number-read, string-wrong, string-read}
+use Rattle.strings.proofs.StringLaws.{string-wrong, string-read}
+use Rattle.asking.proofs.AskingLaws.{number-wrong, number-read}
 use borrow.Author.Needs.{needs}
 use Rattle.asking.proofs.ask_loop.Statement.{statement}
 use Rattle.asking.proofs.ask_loop.Tie as tie

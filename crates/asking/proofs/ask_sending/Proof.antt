@@ -2,7 +2,7 @@
 -- Assumes nothing.
 use mathlib.Core.Path.{refl}
 use Rattle.asking.specs.Asking.{sending-answer}
-use Rattle.asking.proofs.AskingLaws.{string-wrong, string-read}
+use Rattle.strings.proofs.StringLaws.{string-wrong, string-read}
 use borrow.Author.Needs.{needs}
 use Rattle.asking.proofs.ask_sending.Statement.{statement}
 use Rattle.asking.proofs.ask_sending.Tie as tie

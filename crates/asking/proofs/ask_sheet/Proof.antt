@@ -23,9 +23,13 @@ returns-4 c = same-verb _ _ _ _ _ _ _ (c .before .before .before .before .enum-t
 
 returns-5 : tie.Need-returns-5
 unfolding sheet-answer
-returns-5 c = same-verb _ _ _ _ _ _ _ (c .before .before .before .before .enum-told4 .given .1) (c .before .before .bad-line .ensures)
+returns-5 c = same-verb _ _ _ _ _ _ _ (c .before .before .before .before .enum-told4 .given .1) (c .before .before .ask-own-name .ensures)
+
+returns-6 : tie.Need-returns-6
+unfolding sheet-answer
+returns-6 c = same-verb _ _ _ _ _ _ _ (c .before .before .before .before .enum-told5 .given .1) (c .before .before .bad-line .ensures)
 
 pub ask-sheet-spec : {M : Type 1} → statement M
 ask-sheet-spec =
     tie.close
-    (tie.spec (λ c. search needs) (λ c κs. search needs) (λ c κs. search needs) (λ c. search needs) (λ c κs. search needs) (λ c. search needs) (λ c κs. search needs) (λ c. search needs) (λ c κs. search needs) (λ c. search needs) (λ c κs. search needs) (λ c. search needs) returns (λ c. search needs) returns-2 (λ c. search needs) returns-3 (λ c. search needs) returns-4 (λ c. search needs) returns-5)
+    (tie.spec (λ c. search needs) (λ c κs. search needs) (λ c κs. search needs) (λ c. search needs) (λ c κs. search needs) (λ c. search needs) (λ c κs. search needs) (λ c. search needs) (λ c κs. search needs) (λ c. search needs) (λ c κs. search needs) (λ c. search needs) (λ c κs. search needs) (λ c. search needs) returns (λ c. search needs) returns-2 (λ c. search needs) returns-3 (λ c. search needs) returns-4 (λ c. search needs) returns-5 (λ c. search needs) returns-6)

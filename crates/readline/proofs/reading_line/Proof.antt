@@ -1,7 +1,7 @@
 -- Each answer to a class text has its text.
 -- Assumes nothing.
-use Rattle.lines.specs.Lines.{read-text}
-use Rattle.lines.proofs.LineLaws.{read-refused}
+use Rattle.lines.specs.Lines.{one-case, read-word}
+use Rattle.lines.proofs.LineLaws.{case-refused}
 use borrow.Author.Needs.{needs}
 use Rattle.readline.proofs.reading_line.Statement.{statement}
 use Rattle.readline.proofs.reading_line.Tie as tie
@@ -9,14 +9,14 @@ use Rattle.readline.proofs.reading_line.Tie as tie
 returns : tie.Need-returns
 returns c =
     let a = c .before .before .before .before .before .answer in
-    rw (a .given .1) (read-refused _ _ _ (a .given .0 .0) (c .before .before .refused .ensures))
+    rw (a .given .1) (case-refused read-word _ _ _ (a .given .0 .0) (c .before .before .refused .ensures))
 
 returns-2 : tie.Need-returns-2
-unfolding read-text
+unfolding one-case
 returns-2 c = rw (c .before .before .before .before .before .before .answer2 .given .1) (c .before .before .say-two .ensures)
 
 returns-3 : tie.Need-returns-3
-unfolding read-text
+unfolding one-case
 returns-3 c = rw (c .before .before .before .before .before .before .answer3 .given .1) (c .before .before .say-two2 .ensures)
 
 pub reading-line-spec : {M : Type 1} → statement M
