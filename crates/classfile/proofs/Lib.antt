@@ -1,5 +1,6 @@
 pub mod FieldLaws
 pub mod PartLaws
+pub mod GivenLaws
 pub mod HeadLaws
 pub mod TurnLaws
 pub mod LoopLaws

@@ -75,6 +75,10 @@ pub record Rooms : Type 0 where
   pub commands : ℕ
   pub classes : ℕ
 
+-- room for 32 names, 64 commands and 8 classes
+abbrev pub room : Rooms
+room = record { names = 1024; commands = 2048; classes = 288 }
+
 module _ (file : List ℕ) (room : Rooms) where
   -- a word, which stands at a place
   unfoldable pub word-turn : ℕ → ℕ → Line → Lists → Turn

@@ -15,6 +15,13 @@ ghost use Prim.Native.Nat.{_+_, _≤_};
 ghost use lib.ListN.{length};
 ghost use Rattle.classfile.specs.Reads.{alone, begun, Named, Commanded, classed, stated, ended, ended-buffer, lined, lined-buffer, Fits, Stands, Worded, FieldTurned, HeadRead, Inside};
 
+// Room for the records of 32 names, 64 commands and 8 classes.
+pub const NAMES: usize = 1024;
+
+pub const COMMANDS: usize = 2048;
+
+pub const CLASSES: usize = 288;
+
 // The line that is being read: at its beginning, the names, the commands, a class whose name is wanted, or the states of a class: where
 // its name stands, and its set so far.
 pub enum Line {

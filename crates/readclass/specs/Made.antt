@@ -9,7 +9,7 @@ use Rattle.model.specs.declared.ReadAnswer.the-variants as R
 use Rattle.naming.specs.NameLists.{Lists}
 use Rattle.readings.specs.Promise.{Answered}
 use Rattle.classfile.specs.Heads as H
-use Rattle.classfile.specs.Heads.{stretch, head-of, Rooms}
+use Rattle.classfile.specs.Heads.{stretch, head-of, room}
 use Rattle.readclass.specs.declared.converting.Outcome.{Outcome}
 use Rattle.readclass.specs.declared.converting.Outcome.the-variants as O
 
@@ -35,11 +35,7 @@ abbrev pub Made : H.Outcome → List ℕ → List ℕ → ℕ → List ℕ → T
 Made (H.read l start) file before size after = TextRead (stretch file start (length file)) l before size after
 Made (H.wrong x start end l) file before size after = (size ≡ 0) × (after ≡ before)
 
--- room for 32 names, 64 commands and 8 classes
-abbrev pub room : Rooms
-room = record { names = 1024; commands = 2048; classes = 288 }
-
 -- what comes of a file
 pub record Converted (file before : List ℕ) (size : ℕ) (after : List ℕ) : Type 0 where
-  pub long : 262144 < length file → (size ≡ 0) × (after ≡ before)
-  pub short : length file ≤ 262144 → Made (head-of file room) file before size after
+  pub long : 1310720 < length file → (size ≡ 0) × (after ≡ before)
+  pub short : length file ≤ 1310720 → Made (head-of file room) file before size after

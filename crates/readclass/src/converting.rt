@@ -1,16 +1,19 @@
 // From a class file to its sheet, or to why there is none.
-use crate::places::in_file;
 use crate::reasons::too_long;
-use crate::reasons::wrong_line;
 use crate::reasons::wrong_text;
 use crate::reasons::wrong_word;
-use crate::saying::Why;
+use classfile::heads::CLASSES;
+use classfile::heads::COMMANDS;
 use classfile::heads::HeadAnswer;
+use classfile::heads::NAMES;
 use classfile::heads::Used;
 use classfile::heads::read_head;
 use model::ReadAnswer;
 use model::refusal_number;
 use reading::read_class;
+use saying::Why;
+use saying::heads::wrong_line;
+use saying::places::in_file;
 ghost use Prim.Native.Nat.{_≤_};
 ghost use lib.ListN.{length, take};
 ghost use Rattle.lists.specs.Lent.{lent};
@@ -18,15 +21,8 @@ ghost use Rattle.classfile.specs.Heads.{stretch, head-of};
 ghost use Rattle.classfile.specs.Reads.{Fits, rooms};
 ghost use Rattle.readclass.specs.Made.{size-of, TextRead, Made, Converted};
 
-// Room for the records of 32 names, 64 commands and 8 classes; a table of own states has 32 names too.
-const NAMES: usize = 1024;
-
-const COMMANDS: usize = 2048;
-
-const CLASSES: usize = 288;
-
 // The longest file.
-const FILE: usize = 262144;
+const FILE: usize = 1310720;
 
 // A sheet of so many bytes, or why there is none.
 pub enum Outcome {
@@ -34,7 +30,7 @@ pub enum Outcome {
     Refused(Why),
 }
 
-// The sheet of the class text that starts at a place of the file.
+// The sheet of the class text that starts at a place of the file. A table of own states has 32 names, as the names line may have.
 fn text_made(
     file: &[u8],
     start: usize,

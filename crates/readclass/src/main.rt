@@ -2,14 +2,13 @@
 // and one line on standard error that says where and why.
 mod blame;
 mod converting;
-mod places;
+mod messages;
 mod reasons;
-mod saying;
 mod sizing;
 
 use converting::Outcome;
 use converting::convert;
-use saying::say;
+use messages::say_refused;
 use texts::writing::least;
 ghost use mathlib.Core.Path.{_≡_};
 ghost use lib.ListN.{length};
@@ -18,10 +17,10 @@ ghost use lib.ListN.{length};
 const SHEET: usize = 18616;
 
 // Room for one byte more than the longest file that is read.
-fn room() -> [u8; 262145]
-    ensures { λ r. ⌜ length r ≡ 262145 ⌝ }
+fn room() -> [u8; 1310721]
+    ensures { λ r. ⌜ length r ≡ 1310721 ⌝ }
 {
-    [0u8; 262145]
+    [0u8; 1310721]
 }
 
 fn main() {
@@ -35,7 +34,7 @@ fn main() {
             io::write_all(1, &sheet[..k]);
         }
         Outcome::Refused(why) => {
-            say(&file[..n], why);
+            say_refused(&file[..n], why);
         }
     }
 }

@@ -1,4 +1,5 @@
-use Rattle.readclass.proofs.Making.{head-inside, made-read, made-bad}
+use Rattle.classfile.proofs.GivenLaws.{head-inside}
+use Rattle.readclass.proofs.Making.{made-read, made-bad}
 use borrow.Author.Needs.{needs}
 use Rattle.readclass.proofs.converting.head_made.Statement.{statement}
 use Rattle.readclass.proofs.converting.head_made.Tie as tie
