@@ -1,4 +1,4 @@
-//! The answer line to a question line, with the refusals that belong to the questions (10 to 18).
+//! The answer line to a question line, with the refusals that belong to the questions (10 to 19).
 
 use crate::behaviour::{command, phase, probe, Child, Ending, Phase};
 use crate::judging::judge;
@@ -6,6 +6,7 @@ use crate::lines::{hex, Question};
 use crate::lists::NAME_RECORD;
 use crate::loops::{ask, pairs, Answer};
 use crate::reading::{read, Lent};
+use crate::text_writing::{write, Named};
 use crate::tree::{Class, Referrer};
 
 const MOST_CHILDREN: usize = 4096;
@@ -28,9 +29,11 @@ fn answer(question: &Question) -> String {
         Question::Command { sheet, list, state, command, buffer } => answer_command(sheet, list, *state, *command, buffer),
         Question::Loop { sheet, present, buffer } => answer_loop(sheet, *present, buffer),
         Question::Read(lent) => Ok(answer_read(lent)),
+        Question::Write(named) => answer_write(named),
     };
     let lent = match question {
         Question::Phase { buffer, .. } | Question::Command { buffer, .. } | Question::Loop { buffer, .. } => format!(" {}", hex(buffer)),
+        Question::Write(named) => format!(" {}", hex(&named.buffer)),
         _ => String::new(),
     };
     result.unwrap_or_else(|number| format!("refused {number}{lent}"))
@@ -146,4 +149,10 @@ fn answer_read(lent: &Lent) -> String {
             format!("refused {}{place} {} {}", refusal.number, hex(&lent.sheet), hex(&lent.table))
         }
     }
+}
+
+/// The writing question's answer; 15 comes last.
+fn answer_write(named: &Named) -> Result<String, u8> {
+    let text = write(named)?;
+    Ok(format!("written {} {}", text.len(), hex(&written(&named.buffer, &text)?)))
 }

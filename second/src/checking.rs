@@ -1,13 +1,17 @@
 //! Compares the answers of the program `questions` with our own, and counts what was compared.
 
 use crate::answering::answer_line;
+use crate::lines::Question;
+use crate::round_trips::{round_trip, text_in};
 use std::collections::BTreeMap;
 
 /// In a run of so many questions every refusal number must be hit this often: 1 to 15 by questions about sheets, 15 by phases alone as well,
-/// 15 to 18 by texts.
+/// 15 to 18 by reading questions; 15, 17 and 19 by writing questions.
 const FLOOR: usize = 50;
 const FULL_RUN: usize = 20_000;
-const LAST_NUMBER: usize = 18;
+const LAST_NUMBER: usize = 19;
+const OF_READING: [usize; 4] = [15, 16, 17, 18];
+const OF_WRITING: [usize; 3] = [15, 17, 19];
 
 /// How many differences are printed, and how much of a line.
 const SHOWN: usize = 5;
@@ -20,8 +24,11 @@ struct Tally {
     answers: BTreeMap<String, usize>,
     refusals: [usize; LAST_NUMBER + 1],
     reading_refusals: [usize; LAST_NUMBER + 1],
+    writing_refusals: [usize; LAST_NUMBER + 1],
     short_phases: usize,
     differ: usize,
+    round_trips: usize,
+    failed_trips: usize,
 }
 
 /// The lines of a file, without their line feeds.
@@ -42,7 +49,7 @@ fn shown(line: &[u8]) -> String {
 /// The kind of a question line.
 fn question_kind(line: &[u8]) -> String {
     let word = line.split(|byte| *byte == b' ').next().unwrap_or(&[]);
-    let known = ["judge", "probe", "phase", "command", "loop", "read"];
+    let known = ["judge", "probe", "phase", "command", "loop", "read", "write"];
     known.iter().find(|kind| kind.as_bytes() == word).map_or("other".to_string(), |kind| kind.to_string())
 }
 
@@ -70,11 +77,28 @@ impl Tally {
         *self.answers.entry(answer_kind(&kind, answer)).or_default() += 1;
         if let Some(rest) = answer.strip_prefix("refused ") {
             let number = rest.split(' ').next().and_then(|word| word.parse().ok()).unwrap_or(0);
-            let refusals = if kind == "read" { &mut self.reading_refusals } else { &mut self.refusals };
+            let refusals = match kind.as_str() {
+                "read" => &mut self.reading_refusals,
+                "write" => &mut self.writing_refusals,
+                _ => &mut self.refusals,
+            };
             refusals[number] += 1;
             self.short_phases += usize::from(kind == "phase" && number == 15);
         }
         *self.questions.entry(kind).or_default() += 1;
+    }
+
+    /// Reads a text back that the compared program has written, and shows the first few with which that goes wrong.
+    fn read_back(&mut self, number: usize, question: &[u8], got: &[u8]) {
+        let Some(text) = text_in(got) else { return };
+        let Some(Question::Write(named)) = Question::read(question) else { return };
+        self.round_trips += 1;
+        if let Err(fault) = round_trip(&named, text) {
+            self.failed_trips += 1;
+            if self.failed_trips <= SHOWN {
+                println!("line {number}: {fault}\n  question {}\n  got      {}", shown(question), shown(got));
+            }
+        }
     }
 
     /// Compares one answer, and shows the first few that differ.
@@ -103,15 +127,20 @@ impl Tally {
             println!("  {number:<34}{:>8}", self.refusals[number]);
         }
         println!("  15 of phases{:>30}", self.short_phases);
-        for number in 15..=LAST_NUMBER {
+        for number in OF_READING {
             println!("  {number:<2} of reading questions{:>19}", self.reading_refusals[number]);
         }
+        for number in (1..=9).chain(OF_WRITING) {
+            println!("  {number:<2} of writing questions{:>19}", self.writing_refusals[number]);
+        }
+        println!("round trips\n  {:<34}{:>8}", "texts read back", self.round_trips);
     }
 
     /// The refusal numbers that were hit too seldom.
     fn seldom(&self) -> Vec<usize> {
         let few = (1..16).filter(|number| self.refusals[*number] < FLOOR || *number == 15 && self.short_phases < FLOOR);
-        few.chain((15..=LAST_NUMBER).filter(|number| self.reading_refusals[*number] < FLOOR)).collect()
+        let few_of_texts = OF_READING.into_iter().filter(|number| self.reading_refusals[*number] < FLOOR);
+        few.chain(few_of_texts).chain(OF_WRITING.into_iter().filter(|number| self.writing_refusals[*number] < FLOOR)).collect()
     }
 }
 
@@ -121,9 +150,10 @@ pub fn check(questions: &[u8], answers: &[u8]) -> bool {
     let mut tally = Tally::default();
     for (at, (question, got)) in questions.iter().zip(&answers).enumerate() {
         tally.compare(at + 1, question, got);
+        tally.read_back(at + 1, question, got);
     }
     tally.print();
-    let mut good = tally.differ == 0;
+    let mut good = tally.differ == 0 && tally.failed_trips == 0;
     if questions.len() != answers.len() {
         println!("second: {} questions, but {} answers", questions.len(), answers.len());
         good = false;
@@ -136,6 +166,7 @@ pub fn check(questions: &[u8], answers: &[u8]) -> bool {
         println!("second: hit fewer than {FLOOR} times: refusal numbers {:?}", tally.seldom());
         good = false;
     }
+    println!("second: {} texts read back, {} not as they must be", tally.round_trips, tally.failed_trips);
     println!("second: {} questions compared, {} differ", questions.len().min(answers.len()), tally.differ);
     good
 }

@@ -49,7 +49,7 @@ fn change_statements(list: &mut [Statement], atoms: &mut dyn FnMut(&mut Atom), c
 }
 
 /// Changes every atom and every command of a class.
-fn change_class(class: &mut Class, atoms: &mut dyn FnMut(&mut Atom), commands: &mut dyn FnMut(&mut u8)) {
+pub fn change_class(class: &mut Class, atoms: &mut dyn FnMut(&mut Atom), commands: &mut dyn FnMut(&mut u8)) {
     for state in &mut class.states {
         for clause in &mut state.clauses {
             change_atoms(&mut clause.guard, atoms);
@@ -62,7 +62,7 @@ fn change_class(class: &mut Class, atoms: &mut dyn FnMut(&mut Atom), commands: &
 }
 
 /// The numbers below a limit, in some order.
-fn shuffled(random: &mut Random, count: usize) -> Vec<u8> {
+pub fn shuffled(random: &mut Random, count: usize) -> Vec<u8> {
     let mut left: Vec<u8> = (0..count as u8).collect();
     (0..count).map(|_| left.remove(random.below(left.len()))).collect()
 }

@@ -156,7 +156,7 @@ pub fn pool(random: &mut Random, children: &[Names], count: usize, operators: us
 }
 
 /// Where the guard that begins at a record of a pool ends, and how many operators lie on its longest path.
-fn extent(pool: &[u8], at: usize) -> Option<(usize, usize)> {
+pub fn extent(pool: &[u8], at: usize) -> Option<(usize, usize)> {
     let kind = *pool.get(at * 8)?;
     if kind < 4 {
         return Some((at + 1, 0));

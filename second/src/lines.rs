@@ -1,12 +1,13 @@
 //! Question lines: one question in words, bytes as hex, numbers in decimal.
 
 use crate::reading::Lent;
+use crate::text_writing::Named;
 
 /// The longest line that can be a question; and what it once was: lines about as long must still be taken.
 pub const LONGEST_LINE: usize = 1_048_576;
 pub const FORMER_LONGEST_LINE: usize = 262_144;
 
-/// One of the six questions, with what it is asked about.
+/// One of the seven questions, with what it is asked about.
 #[derive(Clone, Debug, PartialEq)]
 pub enum Question {
     Judge { sheet: Vec<u8> },
@@ -15,6 +16,7 @@ pub enum Question {
     Command { sheet: Vec<u8>, list: Vec<u8>, state: u8, command: u8, buffer: Vec<u8> },
     Loop { sheet: Vec<u8>, present: u8, buffer: Vec<u8> },
     Read(Lent),
+    Write(Named),
 }
 
 /// Bytes as lower-case hex; none at all as a hyphen.
@@ -68,6 +70,10 @@ impl Question {
                 let fields = [&lent.text, &lent.names, &lent.commands, &lent.classes, &lent.sheet, &lent.table];
                 format!("read {}", fields.map(|bytes| hex(bytes)).join(" "))
             }
+            Question::Write(named) => {
+                let names = [&named.title, &named.table, &named.names, &named.commands, &named.classes].map(|bytes| hex(bytes));
+                format!("write {} {} {}", hex(&named.sheet), names.join(" "), hex(&named.buffer))
+            }
         }
     }
 
@@ -92,6 +98,11 @@ impl Question {
             (b"read", [names, commands, classes, buffer, table]) => {
                 let (names, commands, classes) = (unhex(names)?, unhex(commands)?, unhex(classes)?);
                 Some(Question::Read(Lent { text: sheet, names, commands, classes, sheet: unhex(buffer)?, table: unhex(table)? }))
+            }
+            (b"write", [title, table, names, commands, classes, buffer]) => {
+                let (title, table, names) = (unhex(title)?, unhex(table)?, unhex(names)?);
+                let (commands, classes, buffer) = (unhex(commands)?, unhex(classes)?, unhex(buffer)?);
+                Some(Question::Write(Named { sheet, title, table, names, commands, classes, buffer }))
             }
             _ => None,
         }

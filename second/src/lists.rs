@@ -1,4 +1,4 @@
-//! The lists that a reading question lends: child state names, commands, child classes with their name sets.
+//! The lists that questions about texts lend: child state names, commands, child classes with their name sets.
 
 use crate::words::is_name;
 use std::collections::HashMap;
@@ -83,4 +83,10 @@ pub fn rule_17_lists<'l>(names: &'l [u8], commands: &'l [u8], classes: &'l [u8])
         return Err(17);
     }
     Ok(Lists { names, commands, classes, sets })
+}
+
+/// The names of a list with records of this size, in the order of their numbers; none where the list is ill-formed, or gives a name twice.
+pub fn ordered(list: &[u8], size: usize) -> Option<Vec<&[u8]>> {
+    known(list, size)?;
+    list.chunks(size).map(|record| name_in(&record[..NAME_RECORD])).collect()
 }

@@ -18,15 +18,19 @@ mod loops;
 mod long_texts;
 mod making;
 mod making_texts;
+mod making_writes;
 mod moving;
 mod name_damage;
 mod naming;
 mod printing;
 mod random;
 mod reading;
+mod round_trips;
 mod shapes;
+mod sketches;
 mod tallying;
 mod tallying_phases;
+mod tallying_writes;
 #[cfg(test)]
 mod tests;
 mod text;
@@ -34,15 +38,21 @@ mod text_damage;
 mod text_limits;
 #[cfg(test)]
 mod text_tests;
+mod text_writing;
 mod tree;
 mod words;
+#[cfg(test)]
+mod write_tests;
 mod writing;
+mod writing_damage;
+mod written_limits;
 
 use std::io::{BufRead, BufWriter, Error, Write};
 use std::process::ExitCode;
 
 const USAGE: &str = "usage: second make SEED COUNT            writes question lines
        second make-texts SEED COUNT      writes lines of reading questions alone
+       second make-writes SEED COUNT     writes lines of writing questions alone
        second answer                     reads question lines, writes the answers
        second check QUESTIONS ANSWERS    compares the answers in a file with its own
        second tally QUESTIONS            counts what the questions in a file ask";
@@ -89,6 +99,7 @@ fn main() -> ExitCode {
     let done = match words[..] {
         ["make", seed, count] => make(making::make_line, seed, count),
         ["make-texts", seed, count] => make(making_texts::make_line, seed, count),
+        ["make-writes", seed, count] => make(making_writes::make_line, seed, count),
         ["answer"] => answer(),
         ["check", questions, answers] => check(questions, answers),
         ["tally", questions] => tally(questions),

@@ -8,6 +8,7 @@ use crate::judging::judge;
 use crate::limits::{guards_of_depth, ifs_of_depth, large, many_names, pinned, shared};
 use crate::lines::{Question, FORMER_LONGEST_LINE, LONGEST_LINE};
 use crate::making_texts;
+use crate::making_writes;
 use crate::moving::{by_do, moving_class, Manner, ALL, DEEP, MIXED};
 use crate::random::Random;
 use crate::shapes::{class, Shape, Style, BUSY, CROWD, LADDER, RING, ROUND, SMALL, TALL, WHOLE};
@@ -18,7 +19,12 @@ use crate::writing::bodies_of;
 const READING_IN_A_HUNDRED: usize = 20;
 const READING_SEED: u64 = 0x4EAD_1000_0000_0000;
 
-/// Every so many questions comes one about a sheet that takes long to answer or to send, and a long text; and so often a worked text.
+/// And so many are writing questions, or read what was written.
+const WRITING_IN_A_HUNDRED: usize = 13;
+const WRITING_SEED: u64 = 0x3817_1000_0000_0000;
+
+/// Every so many questions comes one about a sheet that takes long to answer or to send, a long text to read, and one to write; and so
+/// often a worked text.
 const HEAVY_EVERY: u64 = 500;
 const WORKED_EVERY: u64 = 150;
 
@@ -34,8 +40,14 @@ pub fn make_line(seed: u64, index: u64) -> Vec<u8> {
     if index % HEAVY_EVERY == 0 {
         return making_texts::long_line(seed, index, index / HEAVY_EVERY);
     }
+    if index % HEAVY_EVERY == HEAVY_EVERY / 4 {
+        return making_writes::long_line(seed, index, index / HEAVY_EVERY);
+    }
     if index % WORKED_EVERY == 75 {
         return making_texts::worked_line(seed, index, index / WORKED_EVERY);
+    }
+    if Random::for_question(seed ^ WRITING_SEED, index).chance(WRITING_IN_A_HUNDRED) {
+        return making_writes::mixed_line(seed, index);
     }
     if Random::for_question(seed ^ READING_SEED, index).chance(READING_IN_A_HUNDRED) {
         return making_texts::mixed_line(seed, index);
@@ -181,7 +193,7 @@ fn many_faults(random: &mut Random) -> Question {
 }
 
 /// Changes a few bytes of a sheet at random.
-fn scatter(random: &mut Random, sheet: &mut [u8]) {
+pub fn scatter(random: &mut Random, sheet: &mut [u8]) {
     for _ in 0..random.pick(&[1, 1, 1, 2, 3]) {
         let at = random.below(sheet.len());
         sheet[at] = match random.below(4) {

@@ -115,7 +115,7 @@ fn some_class(random: &mut Random) -> Class {
 }
 
 /// A length that is enough for this room.
-fn enough(random: &mut Random, room: usize) -> usize {
+pub fn enough(random: &mut Random, room: usize) -> usize {
     match random.below(10) {
         0..=4 => room,
         5..=8 => room + random.between(1, 9),
@@ -124,7 +124,7 @@ fn enough(random: &mut Random, room: usize) -> usize {
 }
 
 /// A length that is too short for this room.
-fn short(random: &mut Random, room: usize) -> usize {
+pub fn short(random: &mut Random, room: usize) -> usize {
     match random.below(8) {
         0..=3 => room - 1,
         4 => room.saturating_sub(random.pick(&[2, 4, 8, 32])),
@@ -157,7 +157,7 @@ fn lent(random: &mut Random, asked: Asked, too_short: bool) -> Lent {
 }
 
 /// A question that is read.
-fn good(random: &mut Random) -> Lent {
+pub fn good(random: &mut Random) -> Lent {
     let class = some_class(random);
     let asked = asked(random, class);
     lent(random, asked, false)

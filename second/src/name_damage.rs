@@ -55,7 +55,7 @@ fn part_record(random: &mut Random, lists: &mut [Vec<u8>; 3]) {
 }
 
 /// Spoils the name of a record in one of the ways in which a record is ill-formed.
-fn spoil_record(random: &mut Random, record: &mut [u8]) {
+pub fn spoil_record(random: &mut Random, record: &mut [u8]) {
     let length = record.iter().position(|byte| *byte == 0).unwrap_or(NAME_RECORD);
     match random.below(11) {
         0 | 1 => record[..NAME_RECORD].fill(0),

@@ -5,6 +5,7 @@ use crate::lines::{Question, FORMER_LONGEST_LINE, LONGEST_LINE};
 use crate::lists::{CLASS_RECORD, NAME_RECORD};
 use crate::reading::{counts_of_text, deepest_if, operators_on_a_path, Lent};
 use crate::tallying_phases::{of_loop, of_phase};
+use crate::tallying_writes::of_writing;
 use crate::text::{rule_16, Guard, Kin, Name, Referrer, State, Statement, Text};
 use crate::words::{is_name, is_name_character, is_white, words_of, Word, END, FIXED, LONGEST_NAME, NAME, NOWHERE, RESERVED};
 use crate::writing::RECORD;
@@ -25,7 +26,7 @@ fn names(lent: &Lent, number: usize) -> Vec<&[u8]> {
 }
 
 /// What is wrong with a name record.
-fn ill_formed(record: &[u8]) -> Option<&'static str> {
+pub fn ill_formed(record: &[u8]) -> Option<&'static str> {
     let length = record.iter().position(|byte| *byte == 0);
     match length {
         None => Some("a record without a zero"),
@@ -314,12 +315,17 @@ fn of_reading(lent: &Lent) -> Vec<String> {
 
 /// What a line asks.
 fn of_line(line: &[u8]) -> Vec<String> {
-    let kind = if line.starts_with(b"read ") { "text" } else { "sheet" };
+    let kind = match line.split(|byte| *byte == b' ').next() {
+        Some(b"read") => "text",
+        Some(b"write") => "write",
+        _ => "sheet",
+    };
     let known = [FORMER_LONGEST_LINE, FORMER_LONGEST_LINE + 1, LONGEST_LINE, LONGEST_LINE + 1];
     let there = known.iter().filter(|length| **length == line.len());
     let mut labels: Vec<String> = there.map(|length| format!("line of {length} bytes, {kind}")).collect();
     match Question::read(line) {
         Some(Question::Read(lent)) => labels.extend(of_reading(&lent)),
+        Some(Question::Write(named)) => labels.extend(of_writing(&named)),
         Some(Question::Phase { sheet, list, state, buffer }) => labels.extend(of_phase(&sheet, &list, state, &buffer)),
         Some(Question::Loop { sheet, present, buffer }) => labels.extend(of_loop(&sheet, present, &buffer)),
         None => labels.push(format!("no question, {kind}")),

@@ -31,7 +31,7 @@ fn a_with(at: usize, byte: u8) -> String {
 }
 
 /// Sheet C: B with an action clause for command 9 in READY; then some bytes changed.
-fn c_with(changes: &[(usize, u8)]) -> String {
+pub fn c_with(changes: &[(usize, u8)]) -> String {
     let mut sheet = sheet_a();
     sheet[52] = 2;
     sheet[20..24].copy_from_slice(&[64, 0, 32, 0]);

@@ -93,7 +93,7 @@ pub fn statements(random: &mut Random, count: usize) -> Class {
 }
 
 /// A guard with exactly this many records, and with no more operators on a path than need be, or few more.
-fn guard_of_size(random: &mut Random, children: &[Names], size: usize) -> Guard {
+pub fn guard_of_size(random: &mut Random, children: &[Names], size: usize) -> Guard {
     match size {
         0 | 1 => some_atom(random, children),
         2 => Guard::Not(Box::new(some_atom(random, children))),
