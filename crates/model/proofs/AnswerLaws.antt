@@ -3,6 +3,7 @@
 use Prim.Native.Nat.{ℕ}
 use native.Mathlib.Omega.{arith}
 use mathlib.Core.Path.{_≡_, refl, sym, ap, ap₂}
+use mathlib.Core.List.{List, _++_}
 use Rattle.model.specs.Tree as Tree
 use Rattle.model.specs.Node as Node
 use Rattle.model.specs.Values.{referrer-values, probed-values, settled-values, loop-values}
@@ -116,11 +117,12 @@ same-phase (Settled d q m x) (Looping r n) h = absurd (not-loop d (q .0) (r .0) 
 same-phase (Looping q m) (Settled e r n y) h = absurd (not-loop e (r .0) (q .0) n m y (sym h))
 same-phase (Looping q m) (Looping r n) h = ap₂ Looping (same-state q r (cc)) (cc)
 
-pub handled-told : (r s : Handling) → handled-values r ≡ handled-values s → r ≡ s
-handled-told (Ignored q) (Ignored r) e = ap Ignored (same-state q r (cc))
-handled-told (Ignored q) (Handled r n) e = absurd (clash (cc))
-handled-told (Handled q m) (Ignored r) e = absurd (clash (cc))
-handled-told (Handled q m) (Handled r n) e = ap₂ Handled (same-state q r (cc)) (cc)
+-- every handling has three values, so they and what stands behind them are told apart
+pub handled-told : (r s : Handling) (xs ys : List ℕ) → handled-values r ++ xs ≡ handled-values s ++ ys → (r ≡ s) × (xs ≡ ys)
+handled-told (Ignored q) (Ignored r) xs ys e = (ap Ignored (same-state q r (cc)), cc)
+handled-told (Ignored q) (Handled r n) xs ys e = absurd (clash (cc))
+handled-told (Handled q m) (Ignored r) xs ys e = absurd (clash (cc))
+handled-told (Handled q m) (Handled r n) xs ys e = (ap₂ Handled (same-state q r (cc)) (cc), cc)
 
 pub looped-told : (r s : Loops) → looped-values r ≡ looped-values s → r ≡ s
 looped-told (Loop k q) (Loop j r) e = ap₂ Loop (cc) (same-state q r (cc))
@@ -149,9 +151,9 @@ same-phase-answer (W.Given r) (W.Given s) e = ap W.Given (same-phase r s (cc))
 
 pub same-command : (r s : CommandAnswer) → command-numbers r ≡ command-numbers s → r ≡ s
 same-command (C.Refused x) (C.Refused y) e = ap C.Refused (same-number x y (cc))
-same-command (C.Refused x) (C.Given s) e = absurd (not-zero x (cc))
-same-command (C.Given r) (C.Refused y) e = absurd (not-zero y (cc))
-same-command (C.Given r) (C.Given s) e = ap C.Given (handled-told r s (cc))
+same-command (C.Refused x) (C.Given k s) e = absurd (not-zero x (cc))
+same-command (C.Given h r) (C.Refused y) e = absurd (not-zero y (cc))
+same-command (C.Given h r) (C.Given k s) e = let (f, g) = handled-told h k (phased-values r) (phased-values s) (cc) in ap₂ C.Given f (same-phase r s g)
 
 pub same-loop : (r s : LoopAnswer) → loop-numbers r ≡ loop-numbers s → r ≡ s
 same-loop (L.Refused x) (L.Refused y) e = ap L.Refused (same-number x y (cc))

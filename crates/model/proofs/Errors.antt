@@ -9,6 +9,7 @@ use Rattle.model.specs.Tree.{Child, everyone, of-class, send, go-to, bra
 use Rattle.model.specs.Guards.{holds}
 use Rattle.model.specs.Moves.{Returns}
 use Rattle.model.specs.Node.{found, probe, by-do, next, settled, loops, phase}
+use Rattle.model.specs.Commands.{handled, ignored, command-then-phase, sent-in-all}
 use Rattle.model.specs.Running.{Sent, sent-to, run-part}
 use Rattle.model.specs.Replies.{refuse, give, buffer-after}
 use Rattle.model.proofs.Computing.{computing}
@@ -88,6 +89,22 @@ returns-by-do = record { children = []; states = doing 9 (send 4 everyone then g
 pub do-to-itself : Returns (next returns-by-do heater-and-pump) 0 × (phase returns-by-do heater-and-pump 0 ≡ loops 0 1)
 unfolding computing heater-and-pump doing told returns-by-do
 do-to-itself = ((0, refl), refl)
+
+-- a handled command is followed by the when phase from the state that it leaves, an ignored one by that from the asked state; the command's
+-- move_to is none of the phase's moves
+pub phase-behind : (command-then-phase moves-by-do heater-and-pump 0 9
+    ≡ record { handling = handled (told 0 4 ∷ told 1 4 ∷ []) 1; phase = settled (by-do 7) 1 0 (told 0 6 ∷ told 1 6 ∷ []) })
+    × (command-then-phase moves-by-do heater-and-pump 0 5
+    ≡ record { handling = ignored 0; phase = settled (by-do 7) 1 1 (told 0 4 ∷ told 1 4 ∷ told 0 6 ∷ told 1 6 ∷ []) })
+unfolding computing heater-and-pump doing told moves-by-do
+phase-behind = (refl, refl)
+
+-- the command's own sends stand in front of the phase's; where the phase loops they alone are sent
+pub own-sends-first : (sent-in-all (command-then-phase moves-by-do heater-and-pump 0 9) ≡ told 0 4 ∷ told 1 4 ∷ told 0 6 ∷ told 1 6 ∷ [])
+    × (sent-in-all (command-then-phase returns-by-do heater-and-pump 0 9) ≡ told 0 4 ∷ told 1 4 ∷ [])
+    × (command-then-phase returns-by-do heater-and-pump 0 9 .phase ≡ loops 0 1)
+unfolding computing heater-and-pump doing told moves-by-do returns-by-do
+own-sends-first = (refl, refl, refl)
 
 -- what is given is written at the buffer's head, and the bytes behind it are kept; a refusal leaves the buffer as it was
 pub buffers : (buffer-after {A = ℕ} (give 0 (1 ∷ 2 ∷ [])) (7 ∷ 8 ∷ 9 ∷ []) ≡ 1 ∷ 2 ∷ 9 ∷ []) × (buffer-after {A = ℕ} (refuse 15) (7 ∷ 8 ∷ []) ≡ 7 ∷ 8 ∷ [])

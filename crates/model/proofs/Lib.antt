@@ -7,6 +7,7 @@ pub mod Moves
 pub mod Occupancy
 pub mod NodeLaws
 pub mod RunLaws
+pub mod CommandLaws
 pub mod PhaseSize
 pub mod Errors
 pub mod RefusalLaws

@@ -1,7 +1,7 @@
 -- The answers that the code gives: as the tree has them, and the paper's numbers of each case, 0 for no refusal in front.
 -- Assumes nothing.
 use Prim.Native.Nat.{ℕ}
-use mathlib.Core.List.{List, [], _∷_}
+use mathlib.Core.List.{List, [], _∷_, _++_}
 use Rattle.model.specs.Tree as Tree
 use Rattle.model.specs.Node as Node
 use Rattle.model.specs.Refusals.{number-of}
@@ -53,7 +53,7 @@ abbrev pub phased-values : Phase → List ℕ
 phased-values (Settled e q m n) = settled-values (ending-as e) (q .0) m n
 phased-values (Looping q m) = loop-values (q .0) m
 
--- 0 ignored, 1 handled: the state, the number of bytes written
+-- 0 ignored, 1 handled: the state that is left, the number of bytes of its own sends
 abbrev pub handled-values : Handling → List ℕ
 handled-values (Ignored q) = 0 ∷ q .0 ∷ 0 ∷ []
 handled-values (Handled q n) = 1 ∷ q .0 ∷ n ∷ []
@@ -76,9 +76,10 @@ abbrev pub phase-numbers : PhaseAnswer → List ℕ
 phase-numbers (W.Refused x) = number-of x ∷ []
 phase-numbers (W.Given p) = 0 ∷ phased-values p
 
+-- the command's own values, and behind them the phase's
 abbrev pub command-numbers : CommandAnswer → List ℕ
 command-numbers (C.Refused x) = number-of x ∷ []
-command-numbers (C.Given h) = 0 ∷ handled-values h
+command-numbers (C.Given h p) = 0 ∷ (handled-values h ++ phased-values p)
 
 abbrev pub loop-numbers : LoopAnswer → List ℕ
 loop-numbers (L.Refused x) = number-of x ∷ []

@@ -61,7 +61,7 @@ pub enum Phase {
     Loops(OwnState, usize),
 }
 
-// The handling of a command: the state, and how many bytes were written.
+// The handling of a command: the state that it leaves, and how many bytes of its own sends were written.
 pub enum Handling {
     Ignored(OwnState),
     Handled(OwnState, usize),
@@ -73,7 +73,8 @@ pub enum Loops {
     Free(usize),
 }
 
-// The answers to the five questions: refused, or what is given.
+// The answers to the questions about a sheet: refused, or what is given. A command's has two parts: its handling, and the when phase from the
+// state that it leaves.
 pub enum JudgeAnswer {
     Refused(Refusal),
     Accepted,
@@ -91,7 +92,7 @@ pub enum PhaseAnswer {
 
 pub enum CommandAnswer {
     Refused(Refusal),
-    Given(Handling),
+    Given(Handling, Phase),
 }
 
 pub enum LoopAnswer {
