@@ -1,24 +1,25 @@
--- Laws about the handling of a command: the action clause that was found, and what running it comes to.
+-- Laws about the handling of a command alone: the action clause that was found, and what running it comes to.
 -- Assumes nothing.
-use Prim.Native.Nat.{ℕ, _+_, _-_, _<_, _≤_}
+use Prim.Native.Nat.{ℕ, _+_, _<_, _≤_}
 use native.Mathlib.Omega.{arith}
 use mathlib.Core.Path.{_≡_, refl, sym, _∙_, ap}
 use mathlib.Core.Bool.{Bool, true, false}
-use mathlib.Core.List.{List, _++_}
+use mathlib.Core.List.{List, [], _∷_}
 use mathlib.Core.Logic.{_⊎_, inl, inr}
-use mathlib.Core.Option.{Option, none, some}
+use mathlib.Core.Option.{Option, some}
 use lib.Dec.{eqb}
-use lib.ListN.{length, take, drop, length-take}
+use lib.ListN.{length}
+use lib.Seq.{sets}
 use Rattle.model.specs.Words.{maybe, listed}
 use Rattle.model.specs.Tree.{Child, Action, State, no-action}
-use Rattle.model.specs.Running as Running
 use Rattle.model.specs.Running.{run-part}
-use Rattle.model.specs.Node.{state-of, action-of}
+use Rattle.model.specs.Node.{own-states, state-of, action-of}
 use Rattle.model.specs.Commands as Tree
+use Rattle.model.specs.Commands.{left-by}
 use Rattle.model.specs.declared.OwnState.{OwnState}
-use Rattle.model.specs.declared.Refusal.the-variants.{Room}
-use Rattle.model.specs.declared.Handling.the-variants.{Handled}
-use Rattle.model.specs.declared.CommandAnswer.the-variants.{Given, Refused}
+use Rattle.model.specs.declared.Handling.{Handling}
+use Rattle.model.specs.declared.Handling.the-variants.{Ignored, Handled}
+use Rattle.model.proofs.CommandLaws.{left-within}
 use Rattle.model.proofs.Words.{lt-or-le, least-some, least-none, least-told}
 use Rattle.sheet.specs.Contents.{body, bodies}
 use Rattle.bodies.specs.Clauses.{first-action, action-count, action-command}
@@ -26,16 +27,17 @@ use Rattle.records.specs.Bytes.{in-fours}
 use Rattle.children.specs.ChildList.{children-of, sent-bytes}
 use Rattle.sheet.specs.Reading.{action-in, state-in, class-of}
 use Rattle.sheet.proofs.Contents.{counted}
-use Rattle.sheet.proofs.Reading.{state-of-in, state-of-past, action-of-in}
+use Rattle.sheet.proofs.Reading.{own-states-in, state-of-in, state-of-past, action-of-in}
+use Rattle.sheet.proofs.Sound.{bodies-in}
 use Rattle.sheet.proofs.Rules.{Right}
 use Rattle.running.specs.Running.{moved-as, RunsAction}
 use Rattle.running.specs.declared.Moved.{Moved}
 use Rattle.running.specs.declared.Ran.{Ran}
-use Rattle.running.proofs.SendLaws.{sets-all}
 use Rattle.bodies.proofs.CheckLaws.{past-count}
 use Rattle.running.proofs.ActionLaws.{state-inside}
-use Rattle.commands.specs.Commands.{first-action-for}
-use Rattle.commands.proofs.HandlingLaws.{HandledSo, handled-so, short-so}
+use Rattle.commands.specs.Handling.{bytes-of-handling, handling-values}
+use Rattle.commands.specs.Commands.{first-action-for, left-in, RunsCommand}
+use Rattle.commands.proofs.HandlingLaws.{left-told}
 use Rattle.commands.proofs.ClauseLaws.{clause-none, clause-found}
 
 -- action clause a of state q is the one for command m
@@ -88,25 +90,33 @@ module _ (b : List ℕ) (right : Right b) (q m : ℕ) where
 pub moved-told : (q : ℕ) {x y : Moved} → x ≡ y → maybe (moved-as x) (λ _. q) (λ t. t) ≡ maybe (moved-as y) (λ _. q) (λ t. t)
 moved-told q e = ap (λ (z : Moved). maybe (moved-as z) (λ _. q) (λ t. t)) e
 
--- what handling comes to: the count run, and with room the run that writes
-module _ (b : List ℕ) (q m a : ℕ) (C : Chosen b q m a) (list e e′ out out′ : List ℕ) (r : Ran) (D : RunsAction b list q a e e′ 0 r) (same : out′ ≡ out) where
-  abbrev answer : Tree.Handling
-  answer = Tree.command (class-of b) (children-of list) q m
+-- an ignored command writes nothing
+pub ignored-runs : (b list : List ℕ) (q : OwnState) (m : ℕ) (out : List ℕ) → Tree.command (class-of b) (children-of list) (q .0) m ≡ Tree.ignored (q .0)
+    → RunsCommand b list (q .0) m out out (Ignored q)
+unfolding handling-values bytes-of-handling sent-bytes
+ignored-runs b list q m out e = record { values-are = sym (ap handling-values e); written = sym (ap (λ (h : Tree.Handling). sets out 0 (bytes-of-handling h)) e) }
 
-  abbrev ran : Running.Ran
-  ran = run-part (action-of (class-of b) q a .body) (children-of list)
+-- a handled one writes what its clause sends
+pub handled-runs : (b list : List ℕ) (q m a : ℕ) → Chosen b q m a → (before after : List ℕ) (w : Ran) → RunsAction b list q a before after 0 w
+    → (s : OwnState) → maybe (moved-as (w .moved)) (λ _. q) (λ t. t) ≡ s .0 → RunsCommand b list q m before after (Handled s (w .at))
+unfolding handling-values bytes-of-handling
+handled-runs b list q m a C before after w E s em =
+    let sent = run-part (action-of (class-of b) q a .body) (children-of list) .sent in
+    let n : w .at ≡ length (sent-bytes sent) = omega (arith, E .writes .place) in
+    let h : Tree.command (class-of b) (children-of list) q m ≡ Tree.handled sent (s .0) =
+    C .handled (children-of list) ∙ ap (Tree.handled sent) (ap (λ (o : Option ℕ). maybe o (λ _. q) (λ t. t)) (sym (E .moved)) ∙ em)
+    in
+    record {
+      values-are = ap (λ (k : ℕ). 1 ∷ s .0 ∷ k ∷ []) n ∙ sym (ap handling-values h);
+      written = E .writes .buffer ∙ sym (ap (λ (h : Tree.Handling). sets before 0 (bytes-of-handling h)) h);
+    }
 
-  pub short-told : length out′ < r .at → HandledSo answer out out′ (Refused Room)
-  short-told l =
-      short-so answer (ran .sent) (maybe (ran .moved) (λ _. q) (λ t. t)) (C .handled (children-of list)) out out′ (omega (arith, D .writes .place, ap length same)) same
-
-  pub handled-told : (room last : List ℕ) (w : Ran) (s : OwnState) → r .at ≤ length out′ → RunsAction b list q a room last 0 w → room ≡ take (r .at - 0) out′
-      → maybe (moved-as (w .moved)) (λ _. q) (λ t. t) ≡ s .0 → HandledSo answer out (last ++ drop (r .at - 0) out′) (Given (Handled s (w .at)))
-  handled-told room last w s l E er em =
-      let bytes = sent-bytes (ran .sent) in
-      let n : w .at ≡ length bytes = omega (arith, E .writes .place) in
-      let f : r .at - 0 ≡ w .at = omega (arith, D .writes .place) in
-      let k : w .at ≤ length out = omega (arith, ap length same) in
-      let h : answer ≡ Tree.handled (ran .sent) (s .0) = C .handled (children-of list) ∙ ap (Tree.handled (ran .sent)) (ap (λ (o : Option ℕ). maybe o (λ _. q) (λ t. t)) (sym (E .moved)) ∙ em) in
-      let c : last ≡ bytes = E .writes .buffer ∙ sets-all room bytes (omega (arith, ap length er, length-take (r .at - 0) out′)) in
-      handled-so answer (ran .sent) (s .0) h out (last ++ drop (r .at - 0) out′) s refl (w .at) n k (rw (c, f, same))
+-- the state that is left is one of the sheet's
+pub left-inside : (b list : List ℕ) (q m : ℕ) → q < in-fours (body b 1) → (before after : List ℕ) (r : Handling) → RunsCommand b list q m before after r
+    → (s : OwnState) → s ≡ left-in r → s .0 < in-fours (body b 1)
+unfolding class-of bodies
+left-inside b list q m low before after r R s e =
+    let c = class-of b in
+    let S : own-states c ≡ in-fours (body b 1) = own-states-in (bodies b) in
+    let h : s .0 ≡ left-by (Tree.command c (children-of list) q m) = ap (λ (x : OwnState). x .0) e ∙ left-told (Tree.command c (children-of list) q m) r (R .values-are) in
+    omega (arith, left-within c (children-of list) q m (bodies-in (bodies b) q) (let l : q < own-states c = omega arith in l))

@@ -1,3 +1,5 @@
+pub mod Errors
 pub mod ClauseLaws
 pub mod HandleLaws
 pub mod HandlingLaws
+pub mod BehindLaws

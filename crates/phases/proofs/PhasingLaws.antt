@@ -11,13 +11,16 @@ use Rattle.model.specs.Values.{settled-values}
 use Rattle.model.specs.Answers.{ending-as, phased-values, phase-numbers}
 use Rattle.model.specs.Replies.{written, Answered}
 use Rattle.model.specs.declared.OwnState.{OwnState}
+use Rattle.model.specs.Refusals.{number-of}
+use Rattle.model.specs.declared.Refusal.{Refusal}
 use Rattle.model.specs.declared.Refusal.the-variants.{Room}
 use Rattle.model.specs.declared.Ending.{Ending}
 use Rattle.model.specs.declared.Phase.{Phase}
 use Rattle.model.specs.declared.Phase.the-variants.{Settled, Loops as Looping}
 use Rattle.model.specs.declared.PhaseAnswer.{PhaseAnswer}
 use Rattle.model.specs.declared.PhaseAnswer.the-variants.{Given, Refused}
-use Rattle.model.proofs.ReplyLaws.{answered-short, answered-room}
+use Rattle.model.proofs.ReplyLaws.{answered-short, answered-room, room-refused, room-given}
+use Rattle.model.proofs.RefusalLaws.{same-number, not-zero}
 use Rattle.children.specs.ChildList.{sent-bytes}
 use Rattle.running.proofs.SendLaws.{sets-all}
 use Rattle.phases.specs.Phasing.{bytes-of-phase, reply-phase, phasing-values}
@@ -91,3 +94,15 @@ loops-told t before after s m w out final same = go t (w .numbers-are)
     go : (x : Tree.Phase) → phased-values (Looping s m) ≡ phasing-values x → PhasedSo x out final (Given (Looping s m))
     go (Tree.settled d q k sent) h = absurd (omega (arith, settled-first d q k (length (sent-bytes sent)), ap (λ (l : List ℕ). getD l 0 0) h))
     go (Tree.loops q k) h = given-so (Tree.loops q k) out final (Looping s m) h (omega arith) same
+
+-- what an answer tells of the phase: refused, there was no room, and nothing was written; given, these are its values and its bytes
+pub refused-so : (t : Tree.Phase) (out after : List ℕ) (x : Refusal) → PhasedSo t out after (Refused x) → (x ≡ Room) × (length out < length (bytes-of-phase t)) × (after ≡ out)
+unfolding reply-phase
+refused-so t out after x h =
+    let (e, l, same) = room-refused phasing-values t (bytes-of-phase t) out (phase-numbers (Refused x)) after h (number-of x) (not-zero x) refl in
+    (same-number x Room e, l, same)
+
+pub phase-so : (t : Tree.Phase) (out after : List ℕ) (r : Phase) → PhasedSo t out after (Given r)
+    → (length (bytes-of-phase t) ≤ length out) × (phased-values r ≡ phasing-values t) × (after ≡ written (bytes-of-phase t) out)
+unfolding reply-phase
+phase-so t out after r h = room-given phasing-values t (bytes-of-phase t) out (phase-numbers (Given r)) after h (phased-values r) refl

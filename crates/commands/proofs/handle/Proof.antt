@@ -1,52 +1,44 @@
--- Only the clause for the command is run, first on no buffer, to count, and then on as much of it as it sends.
+-- `handle`: the command is run on no buffer, to count; the phase is asked on the buffer behind its bytes; then the command is run on the front.
 -- Assumes nothing.
-use native.Mathlib.Omega.{arith}
-use mathlib.Core.Path.{refl}
-use Rattle.sheet.proofs.Rules.{accepted-right}
-use Rattle.running.proofs.SendLaws.{none-before}
-use Rattle.commands.proofs.HandleLaws.{Chosen, ignored-told, chosen-told, moved-told, short-told, handled-told}
-use Rattle.commands.proofs.HandlingLaws.{ignored-so}
+use mathlib.Core.Path.{_≡_, refl, ap}
+use mathlib.Core.List.{_++_}
 use borrow.Author.Needs.{needs}
+use Rattle.running.proofs.SendLaws.{none-before}
+use Rattle.commands.proofs.HandleLaws.{left-inside}
+use Rattle.commands.proofs.BehindLaws.{short-told, refused-told, given-told}
 use Rattle.commands.proofs.handle.Statement.{statement}
 use Rattle.commands.proofs.handle.Tie as tie
 
--- where a clause was found, it is the one for the command
-picked : (c : tie.Else1)
-    → let s = c .before .before .before .before .before .before in Chosen (s .args .sheet .now) (s .args .q .0) (s .args .command) (c .before .clause-for .result)
-picked c =
-    let s = c .before .before .before .before .before .before in
-    chosen-told (s .args .sheet .now) (accepted-right _ (s .pre .0 .accepted)) _ _ _ _ (c .before .before .clauses-of .ensures .count-is) (c .before .clause-for .ensures) (c .if1 .left)
+-- the run that counts leaves the buffer as it was
+counted-same : (c : tie.After-run-command) → let s = c .before .before .before .before .before in (c .run-command .last .1 .1 .1 .1 .1 .1 .0 ++ s .args .out .now) ≡ s .args .out .now
+counted-same c = none-before (c .run-command .last .1 .1 .1 .1 .1 .1 .0) _ (c .run-command .kept .1 .1 .1 .1 .1 .1 .0)
 
 returns : tie.Need-returns
 returns c =
-    let s = c .before .before .before .before .before .before in
-    ignored-so _ (s .args .q) (ignored-told (s .args .sheet .now) (accepted-right _ (s .pre .0 .accepted)) _ _ _ _ _ (c .before .before .clauses-of .ensures .count-is) (c .before .clause-for .ensures) (c .if1 .taken)) _ _ refl
+    let r = c .before .before .before .before in
+    short-told _ _ _ _ _ _ _ (r .run-command .ensures) _ _ (counted-same r) _ (c .before .own-bytes .ensures) (c .if1 .taken)
 
-run-action-requires : tie.Need-run-action-requires
-run-action-requires c κs = let s = c .before .before .before .before .before .before .before in (s .pre, (picked (c .before) .there, omega arith))
+when-phase-requires : tie.Need-when-phase-requires
+when-phase-requires c κs =
+    let r = c .before .before .before .before .before .before in
+    let s = r .before .before .before .before .before in
+    (s .pre .0, left-inside (s .args .sheet .now) _ _ _ (s .pre .1) _ _ _ (r .run-command .ensures) _ (c .before .left-by .ensures))
 
 returns-2 : tie.Need-returns-2
 returns-2 c =
-    let d = c .before .before .before in
-    short-told _ _ _ _ (picked (d .before .before)) _ _ _ _ _ _ (d .run-action .ensures) (none-before (d .run-action .last .1 .1 .1 .1 .1 .1 .0) _ (d .run-action .kept .1 .1 .1 .1 .1 .1 .0)) (c .if2 .taken)
-
-run-action-requires-2 : tie.Need-run-action-requires-2
-run-action-requires-2 c κs =
-    let e = c .before .before .before .before .before .before in
-    (e .before .before .before .before .before .before .pre, (picked e .there, omega arith))
+    let w = c .before .before .before .before .before in
+    let l = w .before .before in
+    let r = l .before .before .before .before .before in
+    refused-told _ _ _ _ _ _ _ (r .run-command .ensures) _ _ (counted-same r) _ (l .before .before .own-bytes .ensures) _ (ap (λ q. q .0) (l .left-by .ensures)) (l .before .if1 .left) _ _ refl _ (w .when-phase .ensures) _ (c .before .behind .given .1)
 
 returns-3 : tie.Need-returns-3
 returns-3 c =
-    let w = c .before .before .before .before .before in
-    let d = w .before .before .before .before .before in
-    handled-told _ _ _ _ (picked (d .before .before)) _ _ _ _ _ _ (d .run-action .ensures) (none-before (d .run-action .last .1 .1 .1 .1 .1 .1 .0) _ (d .run-action .kept .1 .1 .1 .1 .1 .1 .0)) _ _ _ _ (w .before .before .if2 .left) (w .run-action2 .ensures) refl (moved-told _ (c .before .moved .given .1))
-
-returns-4 : tie.Need-returns-4
-returns-4 c =
-    let w = c .before .before .before .before in
-    let d = w .before .before .before .before .before in
-    handled-told _ _ _ _ (picked (d .before .before)) _ _ _ _ _ _ (d .run-action .ensures) (none-before (d .run-action .last .1 .1 .1 .1 .1 .1 .0) _ (d .run-action .kept .1 .1 .1 .1 .1 .1 .0)) _ _ _ _ (w .before .before .if2 .left) (w .run-action2 .ensures) refl (moved-told _ (c .enum-told .given .1))
+    let z = c .before .before in
+    let w = z .before .before .before .before .before .before .before in
+    let l = w .before .before in
+    let r = l .before .before .before .before .before in
+    given-told _ _ _ _ _ _ _ (r .run-command .ensures) _ _ (counted-same r) _ (l .before .before .own-bytes .ensures) _ (ap (λ q. q .0) (l .left-by .ensures)) (l .before .if1 .left) _ _ refl _ (w .when-phase .ensures) _ (z .before .before .before .behind2 .given .1) _ _ _ refl (z .run-command2 .ensures)
 
 pub handle-spec : {M : Type 1} → statement M
 handle-spec =
-    tie.close (tie.spec (λ c κs. search needs) (λ c κs. search needs) returns (λ c. search needs) (λ c. search needs) (λ c. search needs) run-action-requires (λ c. search needs) returns-2 (λ c. search needs) (λ c. search needs) (λ c. search needs) run-action-requires-2 (λ c. search needs) (λ c. search needs) (λ c. search needs) returns-3 (λ c. search needs) returns-4)
+    tie.close (tie.spec (λ c. search needs) (λ c. search needs) (λ c. search needs) (λ c κs. search needs) (λ c κs. search needs) (λ c. search needs) returns (λ c κs. search needs) (λ c. search needs) (λ c. search needs) (λ c. search needs) when-phase-requires (λ c. search needs) (λ c. search needs) (λ c. search needs) (λ c. search needs) (λ c. search needs) (λ c κs. search needs) (λ c. search needs) returns-2 (λ c. search needs) returns-3)
