@@ -3,8 +3,7 @@
 use Prim.Native.Nat.{ℕ, zero, suc, _+_, _*_, _<_, _≤_}
 use native.Mathlib.Omega.{arith}
 use mathlib.Core.Path.{_≡_, refl, sym, _∙_, ap, subst}
-use mathlib.Core.Bool.{true}
-use mathlib.Core.List.{List}
+use mathlib.Core.List.{List, []}
 use mathlib.Core.Option.{Option, none, some}
 use lib.ListN.{length, getD}
 use Rattle.model.specs.Words.{maybe}
@@ -12,11 +11,12 @@ use Rattle.model.specs.Tree.{Child, Referrer, move-to, run, stay, When, Class, 
 use Rattle.model.specs.Running.{Sent, run-part}
 use Rattle.model.specs.Node.{own-states, state-of, action-of, found, probe, by-do, turn, stops, next}
 use Rattle.model.specs.Moves.{after}
-use Rattle.model.specs.Commands.{Handling, handled, ignored, handled-by, command, clause-for}
-use Rattle.model.specs.Sound.{ReferrerRight, part-within}
+use Rattle.model.specs.Commands.{ignored, handled-by, command, clause-for, left-by}
+use Rattle.model.specs.Sound.{ReferrerRight}
 use Rattle.model.proofs.Moves.{after-within}
 use Rattle.model.proofs.NodeLaws.{getD-mem, probe-found, turn-runs, next-within}
-use Rattle.model.proofs.RunLaws.{part-size, part-moves, clause-listed}
+use Rattle.model.proofs.RunLaws.{part-size, clause-listed}
+use Rattle.model.proofs.CommandLaws.{left-within}
 use Rattle.model.specs.Words.{Bytes}
 use Rattle.bodies.specs.Clauses.{referrer-of}
 use Rattle.records.specs.Bytes.{in-eights}
@@ -28,13 +28,14 @@ use Rattle.sheet.proofs.Contents.{body-bytes, counted}
 use Rattle.sheet.proofs.Reading.{own-states-in, whens-in, mem-whens, mem-actions, body-sized}
 use Rattle.sheet.proofs.Rules.{accepted-right}
 use Rattle.sheet.proofs.Sound.{sound}
+use Rattle.children.specs.ChildList.{sent-bytes}
 use Rattle.children.proofs.ChildListLaws.{bytes-most}
 use Rattle.commands.specs.Handling.{bytes-of-handling}
 
--- the state of a handling
-abbrev pub state-left : Handling → ℕ
-state-left (handled sent s) = s
-state-left (ignored s) = s
+-- what sends nothing
+nothing : length (sent-bytes []) ≤ 12582912
+unfolding sent-bytes
+nothing = omega arith
 
 -- a referrer's target is a byte
 abbrev pub Small : Referrer → Type 0
@@ -95,28 +96,22 @@ module _ (b : List ℕ) (h : Bytes b) (a : Accepted b) (ks : List Child) where
     reached-small n r e = let l = after-within (next c ks) (own-states c) (next-within c ks (sound b h a)) n q r low e in let f = few in omega arith
 
     -- the state that a command leaves is below S
-    pub left-small : (m : ℕ) → state-left (command c ks q m) < 256
-    unfolding command
-    left-small m = go (clause-for m (state-of c q .actions)) refl
-      where
-        moved-below : (p : Part) → part-within p (own-states c) ≡ true → (o : Option ℕ) → run-part p ks .moved ≡ o → maybe o (λ _. q) (λ t. t) < 256
-        moved-below p w none g = let n = few in omega arith
-        moved-below p w (some t) g = let l = part-moves p ks (own-states c) w t g in let n = few in omega arith
+    pub left-low : (m : ℕ) → left-by (command c ks q m) < own-states c
+    left-low m = left-within c ks q m (sound b h a .bodies q) low
 
-        go : (o : Option Part) → clause-for m (state-of c q .actions) ≡ o → state-left (maybe o (λ _. ignored q) (λ p. handled-by q (run-part p ks))) < 256
-        go none f = let n = few in omega arith
-        go (some p) f = let (x, y, z) = clause-listed m (state-of c q .actions) p f in moved-below p (rw z at (sound b h a .bodies q x y)) (run-part p ks .moved) refl
+    pub left-small : (m : ℕ) → left-by (command c ks q m) < 256
+    left-small m = let l = left-low m in let n = few in omega arith
 
-    -- what a command sends to at most 4,096 children
-    pub sent-small : (m : ℕ) → length ks ≤ 4096 → length (bytes-of-handling (command c ks q m)) < 4294967296
+    -- what a command itself sends to at most 4,096 children
+    pub own-most : (m : ℕ) → length ks ≤ 4096 → length (bytes-of-handling (command c ks q m)) ≤ 12582912
     unfolding command bytes-of-handling class-of
-    sent-small m k = go (clause-for m (state-of c q .actions)) refl
+    own-most m k = go (clause-for m (state-of c q .actions)) refl
       where
-        go : (o : Option Part) → clause-for m (state-of c q .actions) ≡ o → length (bytes-of-handling (maybe o (λ _. ignored q) (λ p. handled-by q (run-part p ks)))) < 4294967296
-        go none f = omega arith
+        go : (o : Option Part) → clause-for m (state-of c q .actions) ≡ o → length (bytes-of-handling (maybe o (λ _. ignored q) (λ p. handled-by q (run-part p ks)))) ≤ 12582912
+        go none f = nothing
         go (some p) f =
             let (x, y, z) = clause-listed m (state-of c q .actions) p f in
             let (j, u, v, w) = mem-actions (bodies b) q x y in
             let n : part-size p ≤ in-eights (bodies b .statements) = subst (λ (p : Part). part-size p ≤ in-eights (bodies b .statements)) (sym (ap (λ (x : Action). x .body) w) ∙ z) (body-sized (bodies b) _) in
             let l : part-size p ≤ 1024 = omega (arith, counted b (accepted-right b a .contents) .statements-most) in
-            omega (arith, bytes-most p ks l k)
+            bytes-most p ks l k

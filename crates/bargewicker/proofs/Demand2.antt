@@ -1,18 +1,16 @@
--- Demand 2: the probe, the when phase and the handling of a command, of whatever meets their promises.
+-- Demand 2: the probe and the when phase, of whatever meets their promises.
 -- Assumes nothing.
 use Prim.Native.Nat.{ℕ, _*_, _<_, _≤_}
 use native.Mathlib.Omega.{arith}
 use mathlib.Core.Path.{_≡_, refl, sym, _∙_, ap, subst}
-use mathlib.Core.List.{List, [], _∷_, _++_}
+use mathlib.Core.List.{List, [], _∷_}
 use mathlib.Core.Logic.{_⊎_, inl, inr, _↔_}
-use mathlib.Core.Option.{Option, none, some}
-use lib.ListN.{length, drop}
+use mathlib.Core.Option.{some}
+use lib.ListN.{length}
 use borrow.Author.Tests.{lt-ltb}
-use Rattle.model.specs.Words.{maybe}
-use Rattle.model.specs.Tree.{Child, Referrer, move-to, run, stay, Part, Class}
-use Rattle.model.specs.Running.{Sent, run-part}
+use Rattle.model.specs.Tree.{Child, Referrer, move-to, run, stay, Class}
+use Rattle.model.specs.Running.{Sent}
 use Rattle.model.specs.Node.{own-states, state-of, Probed, nothing, found, probe, Ending, by-none, by-stay, by-do, stops, turn-for, turn, next, sends, Phase, settled, loops, phase}
-use Rattle.model.specs.Commands.{handled, ignored, clause-for, command}
 use Rattle.model.specs.Sound.{Sound, ReferrerRight}
 use Rattle.model.specs.Values.{probed-values}
 use Rattle.model.specs.Answers.{probed-as, ending-as, probe-numbers}
@@ -22,13 +20,10 @@ use Rattle.model.specs.declared.Refusal.the-variants.{Room}
 use Rattle.model.specs.declared.Ending as Code
 use Rattle.model.specs.declared.Ending.the-variants.{ByNone, ByStay, ByDo}
 use Rattle.model.specs.declared.Phase.the-variants.{Settled, Loops as Looping}
-use Rattle.model.specs.declared.Handling.the-variants.{Ignored, Handled}
 use Rattle.model.specs.declared.ProbeAnswer.{ProbeAnswer}
 use Rattle.model.specs.declared.ProbeAnswer.the-variants as P
 use Rattle.model.specs.declared.PhaseAnswer.{PhaseAnswer}
 use Rattle.model.specs.declared.PhaseAnswer.the-variants as W
-use Rattle.model.specs.declared.CommandAnswer.{CommandAnswer}
-use Rattle.model.specs.declared.CommandAnswer.the-variants as C
 use Rattle.model.proofs.Words.{clash, true-not-false, lt-or-le}
 use Rattle.model.proofs.NodeLaws.{getD-mem, probe-found, probe-nothing, led, next-by, stops-none, stops-stay, turn-runs, sent-by, sends-is, PhaseSettled, phase-settled, phase-loops, loops-never}
 use Rattle.model.proofs.RefusalLaws.{not-zero}
@@ -37,16 +32,15 @@ use Rattle.sheet.specs.Reading.{class-of}
 use Rattle.sheet.proofs.Sound.{sound}
 use Rattle.children.specs.ChildList.{children-of, sent-bytes}
 use Rattle.children.proofs.ChildListLaws.{three-each}
-use Rattle.commands.proofs.HandlingLaws.{HandledSo, ignored-so, handled-so, short-so}
 use Rattle.phases.specs.Phasing.{bytes-of-phase, phasing-values}
 use Rattle.phases.proofs.PhasingLaws.{PhasedSo, short-so as phase-short, given-so}
-use Rattle.bargewicker.specs.Questions.{Answer, probed, probe-in, phase-from, command-in, placed, reply}
+use Rattle.bargewicker.specs.Questions.{Answer, probed, probe-in, phase-from, placed, reply}
 use Rattle.bargewicker.specs.Numbers.{values}
 use Rattle.bargewicker.specs.Placing.{placed-refusal}
 use Rattle.bargewicker.specs.Promises.{Promised}
-use Rattle.bargewicker.specs.Demands.{Asked, no-clause, clause, First, NoneTrue, ProbedRight, ProbeRight, MoveMade, SendsRight, Settles, PhaseRight, CommandRight}
+use Rattle.bargewicker.specs.Demands.{Asked, no-clause, clause, First, NoneTrue, ProbedRight, ProbeRight, MoveMade, SendsRight, Settles, PhaseRight}
 use Rattle.bargewicker.proofs.QuestionLaws.{is-placed}
-use Rattle.bargewicker.proofs.PromiseLaws.{phased-so, commanded-so}
+use Rattle.bargewicker.proofs.PromiseLaws.{phased-so}
 use Rattle.bargewicker.proofs.Unique.{unique}
 
 -- an own state's number as the code has it
@@ -137,16 +131,6 @@ module _ (c : Class) (ks : List Child) where
   probed-right q nothing e = none-found q e
   probed-right q (found i x) e = first-found q i x e
 
--- what the clauses of a state make of a command
-command-none : (c : Class) (ks : List Child) (q m : ℕ) → clause-for m (state-of c q .actions) ≡ none → command c ks q m ≡ ignored q
-unfolding command
-command-none c ks q m e = rw e
-
-command-some : (c : Class) (ks : List Child) (q m : ℕ) (p : Part) → clause-for m (state-of c q .actions) ≡ some p
-    → command c ks q m ≡ handled (run-part p ks .sent) (maybe (run-part p ks .moved) (λ _. q) (λ t. t))
-unfolding command
-command-some c ks q m p e = rw e
-
 module _ (b l : List ℕ) (q : ℕ) (a : Asked b l q) where
   abbrev c : Class
   c = class-of b
@@ -158,7 +142,7 @@ module _ (b l : List ℕ) (q : ℕ) (a : Asked b l q) where
   unfolding placed-refusal
   not-refused = rw (a .list, lt-ltb q (own-states c) (a .state))
 
-  fits : (rest : Class → Reply Answer) → placed b l q rest ≡ rest c
+  pub fits : (rest : Class → Reply Answer) → placed b l q rest ≡ rest c
   fits rest = is-placed b (a .accepted) l q rest not-refused
 
   pub probe-right : (r : ProbeAnswer) (final : List ℕ) → Promised (probe-in b l q) r final → ProbeRight c ks q r
@@ -204,40 +188,3 @@ module _ (b l : List ℕ) (q : ℕ) (a : Asked b l q) where
                 told-phase (W.Given (Settled (ending-of d) (own s) m (3 * length sent))) (written (sent-bytes sent) out)
                 (rw e (given-so (settled d s m sent) out (written (sent-bytes sent) out) (Settled (ending-of d) (own s) m (3 * length sent)) (rw (ending-told d, n)) (let w : length (sent-bytes sent) ≤ length out = omega arith in w) refl))
                 λ k. (S .there, (rw (ending-told d) (stops-so c ks sd s d (sends c ks s) (S .by))), record { number = rw (← S .sent-all); room = room; buffer = rw (← S .sent-all) k })
-
-  module _ (m : ℕ) (out : List ℕ) (small : m ≤ 63) (r : CommandAnswer) (final : List ℕ) (h : Promised (command-in b l q m out) r final) where
-    -- the answer and the buffer are those that the rules give
-    told-command : (s : CommandAnswer) (after : List ℕ) → HandledSo (command c ks q m) out after s
-        → (final ≡ after → CommandRight c ks q m out final s) → CommandRight c ks q m out final r
-    told-command s after g f =
-        let (e, k) = unique .sheets (command-in b l q m out) r s final after h (commanded-so b l q fits m out small s after g) in
-        subst (CommandRight c ks q m out final) (sym e) (f k)
-
-    pub command-right : CommandRight c ks q m out final r
-    unfolding own
-    command-right = go (clause-for m (state-of c q .actions)) refl
-      where
-        go : (o : Option Part) → clause-for m (state-of c q .actions) ≡ o → CommandRight c ks q m out final r
-        go none e =
-            told-command (C.Given (Ignored (own q))) out (ignored-so (command c ks q m) (own q) (command-none c ks q m e) out out refl)
-            λ k. (e, refl, k)
-        go (some p) e = by (lt-or-le (length out) (3 * length sent))
-          where
-            sent : List Sent
-            sent = run-part p ks .sent
-
-            to : ℕ
-            to = maybe (run-part p ks .moved) (λ _. q) (λ t. t)
-
-            runs : command c ks q m ≡ handled sent to
-            runs = command-some c ks q m p e
-
-            by : (length out < 3 * length sent) ⊎ (3 * length sent ≤ length out) → CommandRight c ks q m out final r
-            by (inl short) =
-                let n = three-each sent in
-                told-command (C.Refused Room) out (short-so (command c ks q m) sent to runs out out (let w : length out < length (sent-bytes sent) = omega arith in w) refl)
-                λ k. (refl, p, e, short, k)
-            by (inr room) =
-                told-command (C.Given (Handled (own to) (3 * length sent))) (written (sent-bytes sent) out)
-                (handled-so (command c ks q m) sent to runs out (written (sent-bytes sent) out) (own to) refl (3 * length sent) (sym (three-each sent)) room (ap (λ (n : ℕ). sent-bytes sent ++ drop n out) (three-each sent)))
-                λ k. (p, e, record { state = refl; wrote = record { number = refl; room = room; buffer = k } })

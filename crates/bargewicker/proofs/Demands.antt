@@ -6,7 +6,8 @@ use Rattle.readings.proofs.ReadLaws.{reads}
 use Rattle.readings.specs.Promise.{came}
 use Rattle.bargewicker.specs.Demands.{Demands}
 use Rattle.bargewicker.proofs.Demand1.{demand-1, accepted-exactly}
-use Rattle.bargewicker.proofs.Demand2.{probe-right, phase-right, command-right, moves-first, sends-first}
+use Rattle.bargewicker.proofs.Demand2.{probe-right, phase-right, moves-first, sends-first}
+use Rattle.bargewicker.proofs.CommandRight.{command-right, same-phase}
 use Rattle.bargewicker.proofs.Demand3.{demand-3}
 use Rattle.bargewicker.proofs.TextRight.{text-right}
 use Rattle.bargewicker.proofs.WrittenBack.{written-back}
@@ -22,7 +23,8 @@ demands =
       written-back = written-back;
       probing = probe-right;
       phasing = λ b l q out a. phase-right b l q a out;
-      commanding = λ b l q m out a small. command-right b l q a m out small;
+      commanding = λ b l q m out a small. command-right b l q a m small out;
+      phase-behind = λ b l q m out a small. same-phase b l q a m small out;
       moving = moves-first;
       sending = sends-first;
       demand3 = demand-3;

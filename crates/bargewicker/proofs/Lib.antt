@@ -7,6 +7,7 @@ pub mod Cases
 pub mod Unique
 pub mod Demand1
 pub mod Demand2
+pub mod CommandRight
 pub mod Demand3
 pub mod TextRight
 pub mod WrittenBack

@@ -10,8 +10,7 @@ use Rattle.model.specs.Values.{probed-values}
 use Rattle.model.specs.Answers.{probed-as, phase-numbers, command-numbers, loop-numbers, write-numbers}
 use Rattle.model.specs.Replies.{Reply, refuse, give, told-as, Answered}
 use Rattle.model.specs.Node as Node
-use Rattle.model.specs.Commands as Tree
-use Rattle.model.specs.Commands.{command}
+use Rattle.model.specs.Commands.{Commanded, command-then-phase}
 use Rattle.model.specs.declared.Refusal.{Refusal}
 use Rattle.model.specs.declared.Probed.{Probed}
 use Rattle.model.specs.declared.JudgeAnswer.the-variants as J
@@ -22,13 +21,13 @@ use Rattle.model.specs.declared.CommandAnswer.{CommandAnswer}
 use Rattle.model.specs.declared.CommandAnswer.the-variants as C
 use Rattle.model.specs.declared.LoopAnswer.{LoopAnswer}
 use Rattle.model.specs.declared.WriteAnswer.{WriteAnswer}
-use Rattle.model.proofs.ReplyLaws.{answered, answered-by, answered-as}
+use Rattle.model.proofs.ReplyLaws.{answered, answered-by, answered-as, answered-back}
 use Rattle.sheet.specs.Rules.{Accepted}
 use Rattle.sheet.specs.Reading.{class-of}
 use Rattle.sheet.proofs.AskedLaws.{asked}
 use Rattle.children.specs.ChildList.{children-of}
-use Rattle.commands.specs.Handling.{reply-handling, handling-values}
-use Rattle.commands.proofs.HandlingLaws.{HandledSo}
+use Rattle.commands.specs.Handling.{reply-commanded, commanded-values}
+use Rattle.commands.proofs.HandlingLaws.{CommandedSo}
 use Rattle.phases.specs.Phasing.{reply-phase, phasing-values}
 use Rattle.phases.proofs.PhasingLaws.{PhasedSo}
 use Rattle.loops.specs.LoopQuestion.{loops-values, reply-loop}
@@ -74,20 +73,26 @@ module _ (b l : List ℕ) (q : ℕ) (fits : (rest : Class → Reply Answer) → 
   phased-so out r after a =
       rw (placed-phase out) (answered-as phased phasing-values values (λ _. refl) (reply-phase (phase (class-of b) (children-of l) q) out) out (phase-numbers r) after a)
 
-  -- the command, over 63 or handled
+  -- the command, over 63, or handled and the phase behind it
   module _ (m : ℕ) (out : List ℕ) where
-    placed-command : (r : Reply Tree.Handling) → reply-command (class-of b) l q m out ≡ r → reply (command-in b l q m out) ≡ told-as commanded r
+    placed-command : (r : Reply Commanded) → reply-command (class-of b) l q m out ≡ r → reply (command-in b l q m out) ≡ told-as commanded r
     unfolding reply
     placed-command r e = fits (λ c. told-as commanded (reply-command c l q m out)) ∙ ap (told-as commanded) e
 
     pub over-so : 63 < m → (after : List ℕ) → after ≡ out → Promised (command-in b l q m out) (C.Refused AskedCommand) after
     over-so h after g = refused-so (command-in b l q m out) AskedCommand (placed-command (refuse 12) (command-over (class-of b) l q m out h)) after g
 
-    pub commanded-so : m ≤ 63 → (r : CommandAnswer) (after : List ℕ) → HandledSo (command (class-of b) (children-of l) q m) out after r → Promised (command-in b l q m out) r after
+    pub commanded-so : m ≤ 63 → (r : CommandAnswer) (after : List ℕ) → CommandedSo (command-then-phase (class-of b) (children-of l) q m) out after r → Promised (command-in b l q m out) r after
     unfolding values
     commanded-so h r after a =
-        rw (placed-command (reply-handling (command (class-of b) (children-of l) q m) out) (command-taken (class-of b) l q m out h))
-        (answered-as commanded handling-values values (λ _. refl) (reply-handling (command (class-of b) (children-of l) q m) out) out (command-numbers r) after a)
+        rw (placed-command (reply-commanded (command-then-phase (class-of b) (children-of l) q m) out) (command-taken (class-of b) l q m out h))
+        (answered-as commanded commanded-values values (λ _. refl) (reply-commanded (command-then-phase (class-of b) (children-of l) q m) out) out (command-numbers r) after a)
+
+    pub commanded-told : m ≤ 63 → (r : CommandAnswer) (after : List ℕ) → Promised (command-in b l q m out) r after → CommandedSo (command-then-phase (class-of b) (children-of l) q m) out after r
+    unfolding values
+    commanded-told h r after a =
+        let reply-is = placed-command (reply-commanded (command-then-phase (class-of b) (children-of l) q m) out) (command-taken (class-of b) l q m out h) in
+        answered-back commanded commanded-values values (λ _. refl) (reply-commanded (command-then-phase (class-of b) (children-of l) q m) out) out (command-numbers r) after (rw reply-is at a)
 
 -- the loop question's answer on the class of an accepted sheet
 pub looped-so : (b : List ℕ) (present : ℕ) (out : List ℕ) → Accepted b → (r : LoopAnswer) (after : List ℕ)

@@ -10,13 +10,13 @@ use borrow.Author.Tests.{le-leb, lt-leb}
 use Rattle.model.specs.Words.{choose}
 use Rattle.model.specs.Tree.{Class}
 use Rattle.model.specs.Node.{own-states}
-use Rattle.model.specs.Commands.{command}
+use Rattle.model.specs.Commands.{command-then-phase}
 use Rattle.model.specs.Replies.{Reply, refuse}
 use Rattle.sheet.specs.Rules.{Accepted}
 use Rattle.sheet.specs.Reading.{class-of}
 use Rattle.sheet.proofs.AskedLaws.{asked}
 use Rattle.children.specs.ChildList.{children-of, list-right}
-use Rattle.commands.specs.Handling.{reply-handling}
+use Rattle.commands.specs.Handling.{reply-commanded}
 use Rattle.bargewicker.specs.Questions.{placed, reply-command}
 use Rattle.bargewicker.specs.Placing.{placed-refusal}
 
@@ -40,12 +40,12 @@ module _ {A : Type 0} (b : List ℕ) (a : Accepted b) (l : List ℕ) (q : ℕ) (
       go true false e = absurd (omega arith)
       go false u e = absurd (omega arith)
 
--- the command: 12, or what its handling replies
+-- the command: 12, or what it and the phase behind it reply
 module _ (c : Class) (l : List ℕ) (q m : ℕ) (out : List ℕ) where
   pub command-over : 63 < m → reply-command c l q m out ≡ refuse 12
   unfolding reply-command
   command-over h = rw (lt-leb m 63 h)
 
-  pub command-taken : m ≤ 63 → reply-command c l q m out ≡ reply-handling (command c (children-of l) q m) out
+  pub command-taken : m ≤ 63 → reply-command c l q m out ≡ reply-commanded (command-then-phase c (children-of l) q m) out
   unfolding reply-command
   command-taken h = rw (le-leb m 63 h)

@@ -11,7 +11,7 @@ use borrow.Author.Tests.{ne-eqb, ltb-true}
 use Rattle.model.specs.Words.{choose, every}
 use Rattle.model.specs.Tree.{Class}
 use Rattle.model.specs.Node.{own-states, Phase, phase, sent-of}
-use Rattle.model.specs.Commands.{Handling, handled, ignored, command}
+use Rattle.model.specs.Commands.{Commanded, command-then-phase, sent-in-all}
 use Rattle.model.proofs.Words.{and-left, and-right}
 use Rattle.model.specs.Replies.{Reply, refuse, give, check, told-as}
 use Rattle.sheet.specs.Rules.{refusal, refusal-in}
@@ -21,14 +21,14 @@ use Rattle.children.specs.ChildList.{children-of, list-right}
 use Rattle.children.proofs.ChildListLaws.{three-each}
 use Rattle.configurations.specs.Configurations.{name-count}
 use Rattle.configurations.specs.LoopAnswer.{Loops, loop-answer}
-use Rattle.commands.specs.Handling.{bytes-of-handling, reply-handling}
+use Rattle.commands.specs.Handling.{bytes-of-commanded, reply-commanded}
 use Rattle.phases.specs.Phasing.{bytes-of-phase, reply-phase}
 use Rattle.loops.specs.LoopQuestion.{present-right, bytes-of-loops, reply-loop}
 use Rattle.writings.specs.Layout.{Named, class-text}
 use Rattle.writings.specs.Missing.{names-right}
 use Rattle.writings.specs.Writings.{guards-few, reply-text}
 use Rattle.bargewicker.specs.Questions.{Question, judge, probe-in, phase-from, command-in, loop-with, text-of, phased, commanded, looped, wrote, placed, reply, reply-command}
-use Rattle.bargewicker.specs.Table.{Check, rule, first-failed, body-checks, sheet-checks, place-checks, phase-checks, sent-by, command-checks, loop-checks, text-checks, table}
+use Rattle.bargewicker.specs.Table.{Check, rule, first-failed, body-checks, sheet-checks, place-checks, phase-checks, command-checks, loop-checks, text-checks, table}
 
 -- the number of a refusal, 0 of an answer
 abbrev pub refused-number : {A : Type 0} → Reply A → ℕ
@@ -89,12 +89,6 @@ placed-failed b l q rest more h = asked-failed b _ _ (go (list-right (class-of b
     go true false = refl
     go false u = refl
 
--- the room that a handling needs, three bytes for each command sent
-room : (h : Handling) → length (bytes-of-handling h) ≡ 3 * length (sent-by h)
-unfolding bytes-of-handling
-room (handled sent q) = three-each sent
-room (ignored q) = refl
-
 -- a settled phase needs three bytes for each command sent, one that loops none
 phase-failed : (p : Phase) (out : List ℕ) → refused-number (reply-phase p out) ≡ first-failed (rule 15 (leb (3 * length (sent-of p)) (length out)) ∷ [])
 unfolding reply-phase bytes-of-phase first-failed
@@ -104,14 +98,15 @@ phase-failed p out = go (leb (length (bytes-of-phase p)) (length out)) ∙ ap (�
     go true = refl
     go false = refl
 
+-- a command and the phase behind it need three bytes for each command sent
 command-failed : (c : Class) (l : List ℕ) (q m : ℕ) (out : List ℕ) → refused-number (reply-command c l q m out) ≡ first-failed (command-checks c l q m out)
-unfolding reply-command reply-handling command-checks first-failed
+unfolding reply-command reply-commanded bytes-of-commanded command-checks first-failed
 command-failed c l q m out =
-    let h : Handling = command c (children-of l) q m in
-    go (leb m 63) (leb (length (bytes-of-handling h)) (length out)) h (bytes-of-handling h)
-    ∙ ap (λ (n : ℕ). first-failed (rule 12 (leb m 63) ∷ rule 15 (leb n (length out)) ∷ [])) (room h)
+    let r : Commanded = command-then-phase c (children-of l) q m in
+    go (leb m 63) (leb (length (bytes-of-commanded r)) (length out)) r (bytes-of-commanded r)
+    ∙ ap (λ (n : ℕ). first-failed (rule 12 (leb m 63) ∷ rule 15 (leb n (length out)) ∷ [])) (three-each (sent-in-all r))
   where
-    go : (t u : Bool) (a : Handling) (bytes : List ℕ) → refused-number (check t 12 (λ _. check u 15 (λ _. give a bytes))) ≡ first-failed (rule 12 t ∷ rule 15 u ∷ [])
+    go : (t u : Bool) (a : Commanded) (bytes : List ℕ) → refused-number (check t 12 (λ _. check u 15 (λ _. give a bytes))) ≡ first-failed (rule 12 t ∷ rule 15 u ∷ [])
     go true true a bytes = refl
     go true false a bytes = refl
     go false u a bytes = refl

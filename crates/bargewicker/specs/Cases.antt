@@ -1,5 +1,5 @@
--- The worked cases of the paper that are marked P, and behind them some in which a DO moves the node, as one table: what each question gives on the
--- paper's sheets A, B and C, and on three made of C.
+-- The worked cases of the paper that are marked P, and behind them some in which a DO moves the node and some of commands with the phase behind
+-- them, as one table: what each question gives on the paper's sheets A, B and C, and on three made of C.
 -- Assumes nothing.
 use Prim.Native.Nat.{ℕ}
 use mathlib.Core.Path.{_≡_}
@@ -21,7 +21,10 @@ hot = 0 ∷ 1 ∷ []
 abbrev pub cold-hot : List ℕ
 cold-hot = 0 ∷ 0 ∷ 0 ∷ 1 ∷ []
 
--- lent buffers of five, six and seven bytes, no byte of them 0
+-- lent buffers of three, five, six, seven, eleven and thirteen bytes, no byte of them 0
+abbrev pub three : List ℕ
+three = 91 ∷ 92 ∷ 93 ∷ []
+
 abbrev pub five : List ℕ
 five = 91 ∷ 92 ∷ 93 ∷ 94 ∷ 95 ∷ []
 
@@ -30,6 +33,12 @@ six = 91 ∷ 92 ∷ 93 ∷ 94 ∷ 95 ∷ 96 ∷ []
 
 abbrev pub seven : List ℕ
 seven = 91 ∷ 92 ∷ 93 ∷ 94 ∷ 95 ∷ 96 ∷ 97 ∷ []
+
+abbrev pub eleven : List ℕ
+eleven = 91 ∷ 92 ∷ 93 ∷ 94 ∷ 95 ∷ 96 ∷ 97 ∷ 98 ∷ 99 ∷ 100 ∷ 101 ∷ []
+
+abbrev pub thirteen : List ℕ
+thirteen = 91 ∷ 92 ∷ 93 ∷ 94 ∷ 95 ∷ 96 ∷ 97 ∷ 98 ∷ 99 ∷ 100 ∷ 101 ∷ 102 ∷ 103 ∷ []
 
 -- C in which READY does its action clause where any heater is not in HOT
 abbrev pub sheet-D : List ℕ
@@ -65,11 +74,11 @@ cases =
     asks (phase-from sheet-A hot 1 five) (0 ∷ 0 ∷ 0 ∷ 1 ∷ 0 ∷ []) five ∷
     -- 5: loop, 2 moves, state 0, no byte written and no room needed
     asks (phase-from sheet-A cold-hot 0 []) (0 ∷ 3 ∷ 0 ∷ 2 ∷ 0 ∷ []) [] ∷
-    -- 6: 00 00 04, state 1; 00 00 04 00 00 05, state 0
-    asks (command-in sheet-C hot 0 9 seven) (0 ∷ 1 ∷ 1 ∷ 3 ∷ []) (0 ∷ 0 ∷ 4 ∷ 94 ∷ 95 ∷ 96 ∷ 97 ∷ []) ∷
-    asks (command-in sheet-C cold 0 9 seven) (0 ∷ 1 ∷ 0 ∷ 6 ∷ []) (0 ∷ 0 ∷ 4 ∷ 0 ∷ 0 ∷ 5 ∷ 97 ∷ []) ∷
-    -- 7: ignored, state 0, nothing written
-    asks (command-in sheet-C hot 0 7 seven) (0 ∷ 0 ∷ 0 ∷ 0 ∷ []) seven ∷
+    -- 6: 00 00 04, leaves state 1, and the phase from there: by none, state 0, 1 move; 00 00 04 00 00 05, leaves state 0: by none, state 1, 1 move
+    asks (command-in sheet-C hot 0 9 seven) (0 ∷ 1 ∷ 1 ∷ 3 ∷ 0 ∷ 0 ∷ 1 ∷ 0 ∷ []) (0 ∷ 0 ∷ 4 ∷ 94 ∷ 95 ∷ 96 ∷ 97 ∷ []) ∷
+    asks (command-in sheet-C cold 0 9 seven) (0 ∷ 1 ∷ 0 ∷ 6 ∷ 0 ∷ 1 ∷ 1 ∷ 0 ∷ []) (0 ∷ 0 ∷ 4 ∷ 0 ∷ 0 ∷ 5 ∷ 97 ∷ []) ∷
+    -- 7: ignored, state 0, nothing written; the phase from there: by none, state 0, 0 moves
+    asks (command-in sheet-C hot 0 7 seven) (0 ∷ 0 ∷ 0 ∷ 0 ∷ 0 ∷ 0 ∷ 0 ∷ 0 ∷ []) seven ∷
     -- 8: present 2: 13; buffer of 5: 15, of 6: accepted
     asks (loop-with sheet-A 2 seven) (13 ∷ []) seven ∷
     asks (loop-with sheet-A 1 five) (15 ∷ []) five ∷
@@ -86,7 +95,18 @@ cases =
     asks (loop-with sheet-E 1 seven) (0 ∷ 0 ∷ 1 ∷ []) seven ∷
     -- a DO that moves to the own state loops, writes nothing and needs no room; loop, configuration 1, state 0, list 00 00
     asks (phase-from sheet-F cold 0 []) (0 ∷ 3 ∷ 0 ∷ 2 ∷ 0 ∷ []) [] ∷
-    asks (loop-with sheet-F 1 seven) (0 ∷ 1 ∷ 1 ∷ 0 ∷ []) (0 ∷ 0 ∷ 93 ∷ 94 ∷ 95 ∷ 96 ∷ 97 ∷ []) ∷ []
+    asks (loop-with sheet-F 1 seven) (0 ∷ 1 ∷ 1 ∷ 0 ∷ []) (0 ∷ 0 ∷ 93 ∷ 94 ∷ 95 ∷ 96 ∷ 97 ∷ []) ∷
+    -- a command and a DO behind it: the command's own 6 bytes, then those of the phase; 15 where one is missing
+    asks (command-in sheet-D cold 0 9 thirteen) (0 ∷ 1 ∷ 0 ∷ 6 ∷ 2 ∷ 0 ∷ 0 ∷ 6 ∷ 9 ∷ []) (0 ∷ 0 ∷ 4 ∷ 0 ∷ 0 ∷ 5 ∷ 0 ∷ 0 ∷ 4 ∷ 0 ∷ 0 ∷ 5 ∷ 103 ∷ []) ∷
+    asks (command-in sheet-D cold 0 9 eleven) (15 ∷ []) eleven ∷
+    -- an ignored command is followed by the phase, which needs its room
+    asks (command-in sheet-D cold 0 7 seven) (0 ∷ 0 ∷ 0 ∷ 0 ∷ 2 ∷ 0 ∷ 0 ∷ 6 ∷ 9 ∷ []) (0 ∷ 0 ∷ 4 ∷ 0 ∷ 0 ∷ 5 ∷ 97 ∷ []) ∷
+    asks (command-in sheet-D cold 0 7 five) (15 ∷ []) five ∷
+    -- the command's move_to is none of the phase's moves: leaves state 1, by none, state 1, 0 moves
+    asks (command-in sheet-E cold 0 9 seven) (0 ∷ 1 ∷ 1 ∷ 3 ∷ 0 ∷ 1 ∷ 0 ∷ 0 ∷ []) (0 ∷ 0 ∷ 4 ∷ 94 ∷ 95 ∷ 96 ∷ 97 ∷ []) ∷
+    -- where the phase loops, the command's own 3 bytes alone are written and needed
+    asks (command-in sheet-F cold 0 9 seven) (0 ∷ 1 ∷ 0 ∷ 3 ∷ 3 ∷ 0 ∷ 2 ∷ 0 ∷ []) (0 ∷ 0 ∷ 4 ∷ 94 ∷ 95 ∷ 96 ∷ 97 ∷ []) ∷
+    asks (command-in sheet-F cold 0 9 three) (0 ∷ 1 ∷ 0 ∷ 3 ∷ 3 ∷ 0 ∷ 2 ∷ 0 ∷ []) (0 ∷ 0 ∷ 4 ∷ []) ∷ []
 
 -- what the rules give for the question of a case
 unfoldable pub given : Case → Case

@@ -8,7 +8,7 @@ use mathlib.Core.Bool.{true, false}
 use mathlib.Core.List.{List, []}
 use mathlib.Core.Logic.{_↔_, _⊎_}
 use mathlib.Core.Option.{none, some}
-use lib.ListN.{length, getD}
+use lib.ListN.{length, getD, take, drop}
 use Rattle.model.specs.Words.{maybe}
 use Rattle.model.specs.Tree.{Child, everyone, any-in, atom, Referrer, move-to, run, stay, When, Part, Class}
 use Rattle.model.specs.Guards.{holds}
@@ -22,6 +22,8 @@ use Rattle.model.specs.Replies.{written}
 use Rattle.model.specs.declared.Refusal.{Refusal}
 use Rattle.model.specs.declared.Refusal.the-variants.{Room}
 use Rattle.model.specs.declared.Phase.the-variants.{Settled, Loops as Looping}
+use Rattle.model.specs.declared.Phase.{Phase}
+use Rattle.model.specs.declared.Handling.{Handling}
 use Rattle.model.specs.declared.Handling.the-variants.{Ignored, Handled}
 use Rattle.model.specs.declared.Loops.the-variants.{Loop, Free}
 use Rattle.model.specs.declared.JudgeAnswer.{JudgeAnswer}
@@ -38,6 +40,7 @@ use Rattle.model.specs.Words.{Bytes}
 use Rattle.sheet.specs.Rules.{Accepted}
 use Rattle.sheet.specs.Reading.{class-of}
 use Rattle.children.specs.ChildList.{children-of, list-right, pairs, sent-bytes}
+use Rattle.commands.specs.Commands.{left-in, own-in}
 use Rattle.configurations.specs.Configurations.{name-count}
 use Rattle.configurations.specs.Demand.{AllEnd, FreeRight, LoopRight}
 use Rattle.loops.specs.LoopQuestion.{present-right}
@@ -135,20 +138,48 @@ PhaseRight c ks q out final (W.Given (Looping s m)) =
 PhaseRight c ks q out final (W.Refused x) =
     (x ≡ Room) × (s : ℕ) × (m : ℕ) × EndsAt (next c ks) q m s × (length out < 3 * length (on-the-way c ks m q)) × (final ≡ out)
 
--- the clause p runs: in state q it leaves the state s and sends what is written
-pub record Runs (p : Part) (ks : List Child) (q s n : ℕ) (out final : List ℕ) : Type 0 where
+-- the clause p runs: in state q it leaves the state s and sends these commands, n bytes
+pub record Runs (p : Part) (ks : List Child) (q s n : ℕ) (own : List Sent) : Type 0 where
   pub state : s ≡ maybe (run-part p ks .moved) (λ _. q) (λ t. t)
-  pub wrote : Wrote (run-part p ks .sent) n out final
+  pub sent : own ≡ run-part p ks .sent
+  pub number : n ≡ 3 * length own
 
--- the command: ignored without a clause for it; else its clause runs, if there is room for what it sends
+-- a command alone: ignored without a clause for it, the state kept and nothing sent; else its clause runs
+abbrev pub HandlingRight : Class → List Child → ℕ → ℕ → Handling → List Sent → Type 0
+HandlingRight c ks q m (Ignored s) own = (clause-for m (state-of c q .actions) ≡ none) × (s .0 ≡ q) × (own ≡ [])
+HandlingRight c ks q m (Handled s n) own = (p : Part) × (clause-for m (state-of c q .actions) ≡ some p) × Runs p ks q (s .0) n own
+
+-- a buffer behind a command's own sends
+abbrev pub behind : List Sent → List ℕ → List ℕ
+behind own out = drop (3 * length own) out
+
+-- the command and, from the state that it leaves, the when phase: its own sends stand at the front of the buffer, and on the buffer behind them
+-- the phase is right; a phase that loops has left that as it was
+pub record BothRight (c : Class) (ks : List Child) (q m : ℕ) (out final : List ℕ) (h : Handling) (p : Phase) : Type 0 where
+  pub own : List Sent
+  pub handling : HandlingRight c ks q m h own
+  pub room : 3 * length own ≤ length out
+  pub front : take (3 * length own) final ≡ sent-bytes own
+  pub phase : PhaseRight c ks (left-in h .0) (behind own out) (behind own final) (W.Given p)
+
+-- there is no room for the command's own sends, or behind them none for what the phase sends
+abbrev pub NoRoom : Class → List Child → List ℕ → List ℕ → Handling → List Sent → Type 0
+NoRoom c ks out final h own =
+    (length out < 3 * length own) ⊎ ((3 * length own ≤ length out) × PhaseRight c ks (left-in h .0) (behind own out) (behind own final) (W.Refused Room))
+
+-- the request for a command: both parts, or 15
 abbrev pub CommandRight : Class → List Child → ℕ → ℕ → List ℕ → List ℕ → CommandAnswer → Type 0
-CommandRight c ks q m out final (C.Given (Ignored s)) =
-    (clause-for m (state-of c q .actions) ≡ none) × (s .0 ≡ q) × (final ≡ out)
-CommandRight c ks q m out final (C.Given (Handled s n)) =
-    (p : Part) × (clause-for m (state-of c q .actions) ≡ some p) × Runs p ks q (s .0) n out final
+CommandRight c ks q m out final (C.Given h p) = BothRight c ks q m out final h p
 CommandRight c ks q m out final (C.Refused x) =
-    (x ≡ Room) × (p : Part) × (clause-for m (state-of c q .actions) ≡ some p)
-    × (length out < 3 * length (run-part p ks .sent)) × (final ≡ out)
+    (x ≡ Room) × (final ≡ out) × (h : Handling) × (own : List Sent) × HandlingRight c ks q m h own × NoRoom c ks out final h own
+
+-- the second part of the answer is the when phase's: what that answers from the state that was left
+pub record SamePhase (b l : List ℕ) (h : Handling) (p : Phase) (out final : List ℕ) : Type 0 where
+  -- on the buffer behind the command's own bytes it is the same answer, and it leaves the same bytes
+  pub behind-it : (r : PhaseAnswer) (last : List ℕ) → Promised (phase-from b l (left-in h .0) (drop (own-in h) out)) r last
+      → (r ≡ W.Given p) × (last ≡ drop (own-in h) final)
+  -- on any buffer it is the same answer, unless there is no room
+  pub anywhere : (rest : List ℕ) (r : PhaseAnswer) (last : List ℕ) → Promised (phase-from b l (left-in h .0) rest) r last → (r ≡ W.Given p) ⊎ (r ≡ W.Refused Room)
 
 -- DEMAND 3: free, with nothing written; or loop, with its list ks written
 abbrev pub LoopsRight : Class → ℕ → List ℕ → List ℕ → LoopAnswer → Type 0
@@ -195,7 +226,8 @@ pub record Demands : Type 1 where
   pub writing : (b : List ℕ) (n : Named) (out : List ℕ) → Accepted b → (r : WriteAnswer) (final : List ℕ)
       → Promised (text-of b n out) r final → TextRight n (class-of b) out final r
   pub written-back : WrittenBack
-  -- 2: probing, the when phase and the handling of a command, for every accepted sheet, state, child list and command
+  -- 2: probing, the when phase and the handling of a command, with the when phase behind it, for every accepted sheet, state, child list and
+  -- command
   pub probing : (b l : List ℕ) (q : ℕ) → Asked b l q → (r : ProbeAnswer) (final : List ℕ)
       → Promised (probe-in b l q) r final → ProbeRight (class-of b) (children-of l) q r
   pub phasing : (b l : List ℕ) (q : ℕ) (out : List ℕ) → Asked b l q → (r : PhaseAnswer) (final : List ℕ)
@@ -205,6 +237,8 @@ pub record Demands : Type 1 where
   pub commanding : (b l : List ℕ) (q m : ℕ) (out : List ℕ) → Asked b l q → m ≤ 63
       → (r : CommandAnswer) (final : List ℕ) → Promised (command-in b l q m out) r final
       → CommandRight (class-of b) (children-of l) q m out final r
+  pub phase-behind : (b l : List ℕ) (q m : ℕ) (out : List ℕ) → Asked b l q → m ≤ 63
+      → (h : Handling) (p : Phase) (final : List ℕ) → Promised (command-in b l q m out) (C.Given h p) final → SamePhase b l h p out final
   -- 3: for an accepted sheet, present child classes with at most 20 names together, and enough room
   pub demand3 : (b : List ℕ) (present : ℕ) (out : List ℕ) → AskedLoop b present out
       → (r : LoopAnswer) (final : List ℕ) → Promised (loop-with b present out) r final

@@ -4,7 +4,7 @@ use Prim.Native.Nat.{ℕ}
 use mathlib.Core.List.{List, []}
 use Rattle.model.specs.Values.{probed-values}
 use Rattle.model.specs.Replies.{numbers}
-use Rattle.commands.specs.Handling.{handling-values}
+use Rattle.commands.specs.Handling.{commanded-values}
 use Rattle.phases.specs.Phasing.{phasing-values}
 use Rattle.loops.specs.LoopQuestion.{loops-values}
 use Rattle.writings.specs.Writings.{text-values}
@@ -14,7 +14,7 @@ unfoldable pub values : Answer → List ℕ
 values accepted = []
 values (probed p) = probed-values p
 values (phased p) = phasing-values p
-values (commanded h) = handling-values h
+values (commanded r) = commanded-values r
 values (looped a) = loops-values a
 values (wrote n) = text-values n
 

@@ -5,11 +5,11 @@ use mathlib.Core.List.{List, []}
 use lib.Dec.{leb, ltb}
 use Rattle.model.specs.Tree.{Class}
 use Rattle.model.specs.Node.{own-states, Probed, probe, Phase, phase}
-use Rattle.model.specs.Commands.{Handling, command}
+use Rattle.model.specs.Commands.{Commanded, command-then-phase}
 use Rattle.model.specs.Replies.{Reply, give, check, told-as}
 use Rattle.sheet.specs.Asked.{on-sheet}
 use Rattle.children.specs.ChildList.{children-of, list-right}
-use Rattle.commands.specs.Handling.{reply-handling}
+use Rattle.commands.specs.Handling.{reply-commanded}
 use Rattle.phases.specs.Phasing.{reply-phase}
 use Rattle.configurations.specs.LoopAnswer.{Loops}
 use Rattle.loops.specs.LoopQuestion.{reply-loop}
@@ -29,7 +29,7 @@ pub data Answer : Type 0 where
   accepted : Answer
   probed : Probed → Answer
   phased : Phase → Answer
-  commanded : Handling → Answer
+  commanded : Commanded → Answer
   looped : Loops → Answer
   wrote : ℕ → Answer
 
@@ -37,9 +37,9 @@ pub data Answer : Type 0 where
 unfoldable pub placed : {A : Type 0} → List ℕ → List ℕ → ℕ → (Class → Reply A) → Reply A
 placed b l q rest = on-sheet b λ c. check (list-right c l) 10 λ _. check (ltb q (own-states c)) 11 λ _. rest c
 
--- 12 and 15: the asked command, and the room for what is sent
-unfoldable pub reply-command : Class → List ℕ → ℕ → ℕ → List ℕ → Reply Handling
-reply-command c l q m out = check (leb m 63) 12 λ _. reply-handling (command c (children-of l) q m) out
+-- 12 and 15: the asked command, and the room for what it and the when phase behind it send
+unfoldable pub reply-command : Class → List ℕ → ℕ → ℕ → List ℕ → Reply Commanded
+reply-command c l q m out = check (leb m 63) 12 λ _. reply-commanded (command-then-phase c (children-of l) q m) out
 
 unfoldable pub reply : Question → Reply Answer
 reply (judge b) = on-sheet b λ c. give accepted []

@@ -8,9 +8,8 @@ use lib.Dec.{leb, ltb}
 use lib.ListN.{length}
 use Rattle.model.specs.Words.{choose}
 use Rattle.model.specs.Tree.{Class}
-use Rattle.model.specs.Running.{Sent}
 use Rattle.model.specs.Node.{own-states, phase, sent-of}
-use Rattle.model.specs.Commands.{Handling, handled, ignored, command}
+use Rattle.model.specs.Commands.{command-then-phase, sent-in-all}
 use Rattle.records.specs.Bytes.{in-fours, in-eights}
 use Rattle.bodies.specs.BodyRules.{classes-right, counts-right, records-right, guards-right, targets-right, actions-right, statements-right}
 use Rattle.sheet.specs.Contents.{Bodies, bodies, length-right, contents-right}
@@ -76,18 +75,13 @@ phase-checks c l q out =
     -- given when: buffer too short: under the room needed, three bytes for each command that a settled phase sent
     rule 15 (leb (3 * length (sent-of (phase c (children-of l) q))) (length out)) ∷ []
 
--- the commands that a handling sends
-abbrev pub sent-by : Handling → List Sent
-sent-by (handled sent q) = sent
-sent-by (ignored q) = []
-
--- the asked command, and the room for what it sends
+-- the asked command, and the room for what it and the phase behind it send: where the phase loops, for what the command sends alone
 unfoldable pub command-checks : Class → List ℕ → ℕ → ℕ → List ℕ → List Check
 command-checks c l q m out =
     -- given when: asked command over 63
     rule 12 (leb m 63) ∷
     -- given when: buffer too short: under the room needed, three bytes for each command sent
-    rule 15 (leb (3 * length (sent-by (command c (children-of l) q m))) (length out)) ∷ []
+    rule 15 (leb (3 * length (sent-in-all (command-then-phase c (children-of l) q m))) (length out)) ∷ []
 
 -- the present classes, their names, and the room for a list
 unfoldable pub loop-checks : Class → ℕ → List ℕ → List Check

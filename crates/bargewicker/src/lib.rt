@@ -63,7 +63,7 @@ pub fn when_phase(sheet: &[u8], children: &[u8], state: u8, out: &mut [u8]) -> P
     }
 }
 
-// What does the command send to which children, and which state does it leave?
+// What does the command send to which children, which state does it leave, and where does the when phase from there settle, or does it loop?
 pub fn command(
     sheet: &[u8],
     children: &[u8],
@@ -179,7 +179,7 @@ fn phase_from(sheet: &[u8], p: Places, children: &[u8], state: u8, out: &mut [u8
     phases::when_phase(sheet, p, children, occupy(children), OwnState(state), out)
 }
 
-// The command: 12, then what handling it comes to.
+// The command: 12, then what handling it, and the when phase behind it, come to.
 fn command_in(
     sheet: &[u8],
     p: Places,

@@ -1,4 +1,4 @@
--- `command_in`: 10, 11 and 12, then what handling the command comes to.
+-- `command_in`: 10, 11 and 12, then what handling the command, and the phase behind it, come to.
 -- Assumes nothing.
 use native.Mathlib.Omega.{arith}
 use mathlib.Core.Path.{_≡_, refl}
@@ -8,7 +8,7 @@ use Rattle.sheet.specs.Reading.{class-of}
 use Rattle.model.specs.Replies.{Reply}
 use Rattle.children.proofs.ListLaws.{list-short}
 use Rattle.bargewicker.specs.Questions.{Answer, command-in, placed, reply}
-use Rattle.bargewicker.proofs.PlacingLaws.{not-fitting, fitting, right-list, crew}
+use Rattle.bargewicker.proofs.PlacingLaws.{not-fitting, fitting, right-list, asked-low, crew}
 use Rattle.bargewicker.proofs.PromiseLaws.{refused-so, over-so, commanded-so}
 use borrow.Author.Needs.{needs}
 use Rattle.bargewicker.proofs.command_in.Statement.{statement}
@@ -37,7 +37,7 @@ handle-requires c κs =
     let e = o .before .before .before .before .place .ensures in
     let t = o .before .before .enum-told .given .1 in
     let n : length (o .occupy .result) ≡ 8 = omega arith in
-    (s .pre, record { crewed = crew _ _ (s .pre) _ _ _ e t _ n (o .occupy .ensures); short = list-short _ (s .pre .accepted) _ (right-list _ _ (s .pre) _ _ _ e t) })
+    ((s .pre, record { crewed = crew _ _ (s .pre) _ _ _ e t _ n (o .occupy .ensures); short = list-short _ (s .pre .accepted) _ (right-list _ _ (s .pre) _ _ _ e t) }), asked-low _ _ (s .pre) _ _ _ e t)
 
 returns-3 : tie.Need-returns-3
 returns-3 c =
