@@ -3,12 +3,12 @@
 
 Run it at the repository's root: python3 tests/make_cases.py. It needs the standard library alone, and writes the same files every time.
 
-Each case is a question line with the answer line that document 01 ("the paper") asks for, with request 2 of document 02 where a DO is run,
-or request 1 or 3 of it with the forms of docs/TEXT.md where a class text is read or written. The answers are written here by hand, from
-those; none is taken from the program. Sheets are put together by the small functions below, which only lay out bytes; they know no rule of
-the paper but its layouts. Texts are spelled out; only where a sheet's text is read back is it laid out by a function, `spelt`, which is held
-to texts that are spelled out. Five cases search all of 2 to the 20th configurations, which takes compiled code seconds; `rt try` runs out of its own
-limits there, and says so, on the interpreter and where it checks the compiler's assumptions.
+Each case is a question line with the answer line that document 01 ("the paper") asks for, with request 2 of document 02 where a DO is run and
+request 4 of it where a command is asked, or request 1 or 3 with the forms of docs/TEXT.md where a class text is read or written. The answers are
+written here by hand, from those; none is taken from the program. Sheets are put together by the small functions below, which only lay out bytes;
+they know no rule of the paper but its layouts. Texts are spelled out; only where a sheet's text is read back is it laid out by a function,
+`spelt`, which is held to texts that are spelled out. Five cases search all of 2 to the 20th configurations, which takes compiled code seconds;
+`rt try` runs out of its own limits there, and says so, on the interpreter and where it checks the compiler's assumptions.
 """
 import os
 
@@ -177,17 +177,17 @@ case(phase(A, [HOT], 0, b""), "none 0 0 0 - -")
 case(phase(A, [FAULT], 0, SIX), "none 1 1 0 - a1a2a3a4a5a6")
 case(phase(A, [], 0, b""), "none 0 0 0 - -")
 case(phase(B, [], 1, SIX), "none 0 1 0 - a1a2a3a4a5a6")
-# 6 and 7
-case(command(C, [HOT], 0, 9, SIX), "handled 1 3 000004a4a5a6")
-case(command(C, [COLD], 0, 9, SIX), "handled 0 6 000004000005")
-case(command(C, [HOT], 0, 7, SIX), "ignored 0 0 a1a2a3a4a5a6")
-case(command(C, [HOT], 1, 9, SIX), "ignored 1 0 a1a2a3a4a5a6")
-case(command(C, [HOT], 0, 7, b""), "ignored 0 0 -")
+# 6 and 7, with the when phase behind the command: HOT leads from 1 to 0, and any child that is not HOT from 0 to 1
+case(command(C, [HOT], 0, 9, SIX), "handled 1 3 none 0 1 0 - 000004a4a5a6")
+case(command(C, [COLD], 0, 9, SIX), "handled 0 6 none 1 1 0 - 000004000005")
+case(command(C, [HOT], 0, 7, SIX), "ignored 0 0 none 0 0 0 - a1a2a3a4a5a6")
+case(command(C, [HOT], 1, 9, SIX), "ignored 1 0 none 0 1 0 - a1a2a3a4a5a6")
+case(command(C, [HOT], 0, 7, b""), "ignored 0 0 none 0 0 0 - -")
 case(command(C, [COLD], 0, 9, SIX[:5]), "refused 15 a1a2a3a4a5")
-case(command(C, [HOT], 0, 9, SIX[:3]), "handled 1 3 000004")
+case(command(C, [HOT], 0, 9, SIX[:3]), "handled 1 3 none 0 1 0 - 000004")
 case(command(C, [HOT], 0, 9, SIX[:2]), "refused 15 a1a2")
-# with no child ALL in HOT is true: nothing is sent, and the node moves
-case(command(C, [], 0, 9, b""), "handled 1 0 -")
+# with no child ALL in HOT is true: nothing is sent, and the node moves, and back
+case(command(C, [], 0, 9, b""), "handled 1 0 none 0 1 0 - -")
 # 8
 case(loop(A, 2, SIX), "refused 13 a1a2a3a4a5a6")
 case(loop(A, 1, SIX[:5]), "refused 15 a1a2a3a4a5")
@@ -577,9 +577,9 @@ case(probe(LISTS, [], 2), "refused 11")
 case(probe(LISTS, [], 255), "refused 11")
 case(phase(LISTS, [], 2, SIX), "refused 11 a1a2a3a4a5a6")
 case(command(LISTS, [], 2, 0, b""), "refused 11 -")
-case(command(LISTS, [(0, 31)], 0, 63, SIX), "handled 0 3 000001a4a5a6")
-case(command(LISTS, [(0, 31)], 1, 63, SIX), "ignored 1 0 a1a2a3a4a5a6")
-case(command(LISTS, [(0, 31)], 0, 62, SIX), "ignored 0 0 a1a2a3a4a5a6")
+case(command(LISTS, [(0, 31)], 0, 63, SIX), "handled 0 3 none 0 0 0 - 000001a4a5a6")
+case(command(LISTS, [(0, 31)], 1, 63, SIX), "ignored 1 0 none 1 0 0 - a1a2a3a4a5a6")
+case(command(LISTS, [(0, 31)], 0, 62, SIX), "ignored 0 0 none 0 0 0 - a1a2a3a4a5a6")
 case(command(LISTS, [(0, 31)], 0, 64, SIX), "refused 12 a1a2a3a4a5a6")
 case(command(LISTS, [(0, 31)], 1, 255, SIX), "refused 12 a1a2a3a4a5a6")
 
@@ -692,65 +692,65 @@ WISHES = [atom(ANY_IN, 0, n) for n in range(8)]
 
 
 def acting(*actions, states=3):
-    """State 0 with these action clauses, and two more states."""
+    """State 0 with these action clauses, and two more states. There is no when clause: behind a command the phase ends where it left the node."""
     return sheet([klass(*range(8)), klass(0)], WISHES, [([], list(actions))] + [([], [])] * (states - 1))
 
 
 KEPT = bytes(range(0xC0, 0xD8))  # 24 bytes
 assert KEPT.hex() == "c0c1c2c3c4c5c6c7c8c9cacbcccdcecfd0d1d2d3d4d5d6d7"
 # an empty clause is handled
-case(command(acting((5, [])), [(0, 0)], 0, 5, KEPT), "handled 0 0 " + KEPT.hex())
-case(command(acting((5, [])), [(0, 0)], 0, 5, b""), "handled 0 0 -")
+case(command(acting((5, [])), [(0, 0)], 0, 5, KEPT), "handled 0 0 none 0 0 0 - " + KEPT.hex())
+case(command(acting((5, [])), [(0, 0)], 0, 5, b""), "handled 0 0 none 0 0 0 - -")
 # the clause is found among others; each state has its own
 FOUND = sheet([klass(0)], [], [([], [(1, send(11)), (2, send(12)), (3, [])]), ([], [(2, send(22)), (1, send(21) + go(0))])])
-case(command(FOUND, [(0, 0)], 0, 1, SIX), "handled 0 3 00000ba4a5a6")
-case(command(FOUND, [(0, 0)], 0, 2, SIX), "handled 0 3 00000ca4a5a6")
-case(command(FOUND, [(0, 0)], 0, 3, SIX), "handled 0 0 a1a2a3a4a5a6")
-case(command(FOUND, [(0, 0)], 0, 0, SIX), "ignored 0 0 a1a2a3a4a5a6")
-case(command(FOUND, [(0, 0)], 1, 1, SIX), "handled 0 3 000015a4a5a6")
-case(command(FOUND, [(0, 0)], 1, 2, SIX), "handled 1 3 000016a4a5a6")
-case(command(FOUND, [(0, 0)], 1, 3, SIX), "ignored 1 0 a1a2a3a4a5a6")
+case(command(FOUND, [(0, 0)], 0, 1, SIX), "handled 0 3 none 0 0 0 - 00000ba4a5a6")
+case(command(FOUND, [(0, 0)], 0, 2, SIX), "handled 0 3 none 0 0 0 - 00000ca4a5a6")
+case(command(FOUND, [(0, 0)], 0, 3, SIX), "handled 0 0 none 0 0 0 - a1a2a3a4a5a6")
+case(command(FOUND, [(0, 0)], 0, 0, SIX), "ignored 0 0 none 0 0 0 - a1a2a3a4a5a6")
+case(command(FOUND, [(0, 0)], 1, 1, SIX), "handled 0 3 none 0 0 0 - 000015a4a5a6")
+case(command(FOUND, [(0, 0)], 1, 2, SIX), "handled 1 3 none 1 0 0 - 000016a4a5a6")
+case(command(FOUND, [(0, 0)], 1, 3, SIX), "ignored 1 0 none 1 0 0 - a1a2a3a4a5a6")
 # do: to the children of its pattern, in list order, with their places in the whole list
 PATTERNS = acting((0, send(1, 0) + send(2, 1) + send(3)))
 THREE = [(1, 0), (0, 4), (1, 0)]
-case(command(PATTERNS, THREE, 0, 0, KEPT), "handled 0 18 010001" "000002" "020002" "000003" "010003" "020003" "d2d3d4d5d6d7")
-case(command(PATTERNS, THREE, 0, 0, KEPT[:18]), "handled 0 18 010001000002020002000003010003020003")
+case(command(PATTERNS, THREE, 0, 0, KEPT), "handled 0 18 none 0 0 0 - 010001" "000002" "020002" "000003" "010003" "020003" "d2d3d4d5d6d7")
+case(command(PATTERNS, THREE, 0, 0, KEPT[:18]), "handled 0 18 none 0 0 0 - 010001000002020002000003010003020003")
 case(command(PATTERNS, THREE, 0, 0, KEPT[:17]), "refused 15 " + KEPT[:17].hex())
 case(command(PATTERNS, THREE, 0, 0, b""), "refused 15 -")
-case(command(PATTERNS, [], 0, 0, b""), "handled 0 0 -")
-case(command(PATTERNS, [(1, 0)], 0, 0, SIX), "handled 0 6 000002000003")
+case(command(PATTERNS, [], 0, 0, b""), "handled 0 0 none 0 0 0 - -")
+case(command(PATTERNS, [(1, 0)], 0, 0, SIX), "handled 0 6 none 0 0 0 - 000002000003")
 # places of 256 and over: low byte first
 PLACES = acting((0, send(9, 1)))
 LONG_LIST = [(0, 0)] * 255 + [(1, 0), (1, 0)] + [(0, 0)] * 42 + [(1, 0)]
-case(command(PLACES, LONG_LIST, 0, 0, KEPT), "handled 0 9 ff0009" "000109" "2b0109" + KEPT[9:].hex())
+case(command(PLACES, LONG_LIST, 0, 0, KEPT), "handled 0 9 none 0 0 0 - ff0009" "000109" "2b0109" + KEPT[9:].hex())
 # 4,096 children: 12,288 bytes, and room for one less
 ALL_SENT = b"".join(u16(place) + b"\x3f" for place in range(4096))
 ROOM = b"\xee" * 12288
-case(command(acting((0, send(63))), [(1, 0)] * 4096, 0, 0, ROOM), "handled 0 12288 " + ALL_SENT.hex())
+case(command(acting((0, send(63))), [(1, 0)] * 4096, 0, 0, ROOM), "handled 0 12288 none 0 0 0 - " + ALL_SENT.hex())
 case(command(acting((0, send(63))), [(1, 0)] * 4096, 0, 0, ROOM[:-1]), "refused 15 " + ROOM[:-1].hex())
 # move_to ends the clause: what stands behind it is not run
 MOVES = acting((0, send(1) + go(2) + send(2)), (1, go(1)), (2, go(0)))
-case(command(MOVES, [(0, 0)], 0, 0, SIX), "handled 2 3 000001a4a5a6")
-case(command(MOVES, [(0, 0)], 0, 0, SIX[:3]), "handled 2 3 000001")
-case(command(MOVES, [(0, 0)], 0, 1, SIX), "handled 1 0 a1a2a3a4a5a6")
-case(command(MOVES, [(0, 0)], 0, 2, SIX), "handled 0 0 a1a2a3a4a5a6")
+case(command(MOVES, [(0, 0)], 0, 0, SIX), "handled 2 3 none 2 0 0 - 000001a4a5a6")
+case(command(MOVES, [(0, 0)], 0, 0, SIX[:3]), "handled 2 3 none 2 0 0 - 000001")
+case(command(MOVES, [(0, 0)], 0, 1, SIX), "handled 1 0 none 1 0 0 - a1a2a3a4a5a6")
+case(command(MOVES, [(0, 0)], 0, 2, SIX), "handled 0 0 none 0 0 0 - a1a2a3a4a5a6")
 # if: the then-part where the guard is true, else the else-part; then what stands behind both
 BRANCHES = acting((0, send(1) + branch(0, send(2), send(3)) + send(4)))
-case(command(BRANCHES, [(0, 0)], 0, 0, KEPT[:12]), "handled 0 9 000001" "000002" "000004" "c9cacb")
-case(command(BRANCHES, [(0, 1)], 0, 0, KEPT[:12]), "handled 0 9 000001" "000003" "000004" "c9cacb")
-case(command(acting((0, branch(0, [], send(3)))), [(0, 0)], 0, 0, SIX), "handled 0 0 a1a2a3a4a5a6")
-case(command(acting((0, branch(0, [], send(3)))), [(0, 1)], 0, 0, SIX), "handled 0 3 000003a4a5a6")
+case(command(BRANCHES, [(0, 0)], 0, 0, KEPT[:12]), "handled 0 9 none 0 0 0 - 000001" "000002" "000004" "c9cacb")
+case(command(BRANCHES, [(0, 1)], 0, 0, KEPT[:12]), "handled 0 9 none 0 0 0 - 000001" "000003" "000004" "c9cacb")
+case(command(acting((0, branch(0, [], send(3)))), [(0, 0)], 0, 0, SIX), "handled 0 0 none 0 0 0 - a1a2a3a4a5a6")
+case(command(acting((0, branch(0, [], send(3)))), [(0, 1)], 0, 0, SIX), "handled 0 3 none 0 0 0 - 000003a4a5a6")
 # a move_to in a nested part ends the whole clause, not the part alone
 INSIDE = acting((0, branch(0, branch(1, go(2) + send(9)) + send(1), branch(2, [], go(1)) + send(2)) + send(3)))
-case(command(INSIDE, [(0, 0), (0, 1)], 0, 0, KEPT[:12]), "handled 2 0 " + KEPT[:12].hex())
-case(command(INSIDE, [(0, 0)], 0, 0, KEPT[:12]), "handled 0 6 000001000003" + KEPT[6:12].hex())
-case(command(INSIDE, [(0, 3)], 0, 0, KEPT[:12]), "handled 1 0 " + KEPT[:12].hex())
-case(command(INSIDE, [(0, 2)], 0, 0, KEPT[:12]), "handled 0 6 000002000003" + KEPT[6:12].hex())
+case(command(INSIDE, [(0, 0), (0, 1)], 0, 0, KEPT[:12]), "handled 2 0 none 2 0 0 - " + KEPT[:12].hex())
+case(command(INSIDE, [(0, 0)], 0, 0, KEPT[:12]), "handled 0 6 none 0 0 0 - 000001000003" + KEPT[6:12].hex())
+case(command(INSIDE, [(0, 3)], 0, 0, KEPT[:12]), "handled 1 0 none 1 0 0 - " + KEPT[:12].hex())
+case(command(INSIDE, [(0, 2)], 0, 0, KEPT[:12]), "handled 0 6 none 0 0 0 - 000002000003" + KEPT[6:12].hex())
 # what was sent before a move_to in a part is kept, and the room is that of this run alone
 BEFORE = acting((0, send(1) + branch(0, send(2) + go(1)) + send(3) + send(4) + send(5)))
-case(command(BEFORE, [(0, 0)], 0, 0, SIX), "handled 1 6 000001000002")
+case(command(BEFORE, [(0, 0)], 0, 0, SIX), "handled 1 6 none 1 0 0 - 000001000002")
 case(command(BEFORE, [(0, 1)], 0, 0, SIX), "refused 15 a1a2a3a4a5a6")
-case(command(BEFORE, [(0, 1)], 0, 0, KEPT[:12]), "handled 0 12 000001000003000004000005")
+case(command(BEFORE, [(0, 1)], 0, 0, KEPT[:12]), "handled 0 12 none 0 0 0 - 000001000003000004000005")
 
 
 def ladder(n):
@@ -780,21 +780,22 @@ for have, commands, q in [
 ]:
     got = sent(*commands)
     children = [(1, 0)] + [(0, n) for n in have]
-    case(command(EIGHT, children, 0, 0, FIFTY), "handled %d %d %s" % (q, len(got), (got + FIFTY[len(got):]).hex()))
-    case(command(EIGHT, children, 0, 0, FIFTY[:len(got)]), "handled %d %d %s" % (q, len(got), got.hex()))
+    case(command(EIGHT, children, 0, 0, FIFTY), "handled %d %d none %d 0 0 - %s" % (q, len(got), q, (got + FIFTY[len(got):]).hex()))
+    case(command(EIGHT, children, 0, 0, FIFTY[:len(got)]), "handled %d %d none %d 0 0 - %s" % (q, len(got), q, got.hex()))
     case(command(EIGHT, children, 0, 0, FIFTY[:len(got) - 1]), "refused 15 " + FIFTY[:len(got) - 1].hex())
 # the same through else-parts: with no child of class 0 every guard is false
 ELSE = []
 for n in reversed(range(8)):
     ELSE = branch(n, go(1), send(n) + ELSE)
-case(command(acting((0, ELSE + send(8))), [(1, 0)], 0, 0, FIFTY[:27]), "handled 0 27 " + sent(0, 1, 2, 3, 4, 5, 6, 7, 8).hex())
-case(command(acting((0, ELSE + send(8))), [(0, 7)], 0, 0, FIFTY[:24]), "handled 1 21 " + sent(0, 1, 2, 3, 4, 5, 6).hex() + "aaaaaa")
-case(command(acting((0, ELSE + send(8))), [(0, 0)], 0, 0, b""), "handled 1 0 -")
+case(command(acting((0, ELSE + send(8))), [(1, 0)], 0, 0, FIFTY[:27]), "handled 0 27 none 0 0 0 - " + sent(0, 1, 2, 3, 4, 5, 6, 7, 8).hex())
+case(command(acting((0, ELSE + send(8))), [(0, 7)], 0, 0, FIFTY[:24]), "handled 1 21 none 1 0 0 - " + sent(0, 1, 2, 3, 4, 5, 6).hex() + "aaaaaa")
+case(command(acting((0, ELSE + send(8))), [(0, 0)], 0, 0, b""), "handled 1 0 none 1 0 0 - -")
 # 1,024 statements, each to one child
-case(command(sheet([klass(0)], [], [([], [(0, send(7) * 1024)])]), [(0, 0)], 0, 0, b"\xee" * 3073), "handled 0 3072 " + "000007" * 1024 + "ee")
+case(command(sheet([klass(0)], [], [([], [(0, send(7) * 1024)])]), [(0, 0)], 0, 0, b"\xee" * 3073), "handled 0 3072 none 0 0 0 - " + "000007" * 1024 + "ee")
 case(command(sheet([klass(0)], [], [([], [(0, send(7) * 1024)])]), [(0, 0)], 0, 0, b"\xee" * 3071), "refused 15 " + "ee" * 3071)
-# a state's own clauses and the longest sheet: state 31, command 56 is its eighth clause; guard 1,007 is ALL not in {15} of class 7
-case(command(LONGEST, [(7, 7), (0, 0)], 31, 56, KEPT), "handled 31 3 00003f" + KEPT[3:].hex())
+# a state's own clauses and the longest sheet: state 31, command 56 is its eighth clause; guard 1,007 is ALL not in {15} of class 7. Behind
+# it the third when clause, ALL in of class 2, which has no child, is the first that is true, and leads to state 2; there it does so again
+case(command(LONGEST, [(7, 7), (0, 0)], 31, 56, KEPT), "handled 31 3 loop 2 32 0 - 00003f" + KEPT[3:].hex())
 
 # --------------------------------------------------------------------------------------------------------------------------- DOs in the when phase
 
@@ -823,11 +824,11 @@ case(phase(SETTLING, [(0, 3)], 0, SIX), "none 0 0 0 - a1a2a3a4a5a6")
 case(phase(SETTLING, [(0, 2)], 1, SIX), "none 1 0 0 - a1a2a3a4a5a6")
 case(phase(SETTLING, [(0, 2)], 2, SIX), "stay 2 0 0 - a1a2a3a4a5a6")
 case(phase(SETTLING, [(0, 2)], 3, SIX), "do 3 0 3 31 000029a4a5a6")
-# the probe names the DO and runs nothing; the command runs its clause and no when phase
+# the probe names the DO and runs nothing; a command runs its own clause, and the DO of the state that it leaves runs behind it
 case(probe(SETTLING, [(0, 2)], 0), "clause 2 1 2")
 case(probe(SETTLING, [(0, 2)], 3), "clause 0 1 1")
-case(command(SETTLING, [(0, 2)], 0, 12, SIX), "handled 3 3 000016a4a5a6")
-case(command(SETTLING, [(0, 2)], 3, 30, SIX), "handled 3 3 000028a4a5a6")
+case(command(SETTLING, [(0, 2)], 0, 12, SIX), "handled 3 3 do 3 0 3 31 000016000029")
+case(command(SETTLING, [(0, 2)], 3, 30, SIX), "handled 3 3 do 3 0 3 31 000028000029")
 # the room is that of the whole phase: exactly that is enough, one byte less is refused, and nothing is written, not even what would fit
 case(phase(SETTLING, [(0, 2)], 0, SIX[:5]), "refused 15 a1a2a3a4a5")
 case(phase(SETTLING, [(0, 2)], 0, SIX[:3]), "refused 15 a1a2a3")
@@ -857,7 +858,7 @@ case(phase(OWN_DO, [(1, 0)], 0, b""), "loop 0 1 0 - -")
 case(phase(OWN_DO, [(1, 0)], 0, SIX), "loop 0 1 0 - a1a2a3a4a5a6")
 case(phase(OWN_DO, [(1, 0)], 0, SIX[:2]), "loop 0 1 0 - a1a2")
 case(phase(OWN_DO, [(1, 0)], 1, b""), "refused 11 -")
-case(command(OWN_DO, [(1, 0)], 0, 5, SIX), "handled 0 3 000001a4a5a6")
+case(command(OWN_DO, [(1, 0)], 0, 5, SIX), "handled 0 3 loop 0 1 0 - 000001a4a5a6")
 RETRY = node(([when(SURE, MOVE_TO, 1)], []), ([when(1, STAY), when(SURE, DO, 0)], [(5, send(1) + branch(0, go(1), send(2)))]), ([], []))
 case(phase(RETRY, [(0, 0)], 0, SIX), "loop 1 3 0 - a1a2a3a4a5a6")
 case(phase(RETRY, [(0, 0)], 1, b""), "loop 1 3 0 - -")
@@ -1013,6 +1014,157 @@ MUCH_SENT = b"".join(u16(place) + b"\x01" for place in range(4096)) * 20 + b"".j
 assert len(MUCH_SENT) == 503808
 case(phase(LINE_DO, [(1, 0)] * 4096, 0, MUCH), "do 1 1 503808 2 " + (MUCH_SENT + MUCH[503808:]).hex())
 assert len(QUESTIONS[-1]) == 1048576
+
+# --------------------------------------------------------------------------------------------------------------------------- a command and the when phase behind it
+
+# 01's sheet C again, where the answer is not that of its cases 6 and 7: both children are told, COLD leads to HOLD and holds there, the
+# ignored command is followed by the phase all the same, FAULT leads to HOLD
+case(command(C, [COLD, HOT], 0, 9, KEPT[:12]), "handled 0 12 none 1 1 0 - 000004" "010004" "000005" "010005")
+case(command(C, [COLD], 1, 9, SIX), "ignored 1 0 none 1 0 0 - a1a2a3a4a5a6")
+case(command(C, [FAULT], 0, 7, SIX), "ignored 0 0 none 1 1 0 - a1a2a3a4a5a6")
+case(command(C, [], 1, 9, b""), "ignored 1 0 none 0 1 0 - -")
+# sheet A has no action clause: every command is ignored, and the loop of its case 5 stands behind it
+case(command(A, [COLD, HOT], 0, 0, b""), "ignored 0 0 loop 0 2 0 - -")
+case(command(A, [COLD, HOT], 1, 63, SIX), "ignored 1 0 loop 1 2 0 - a1a2a3a4a5a6")
+
+# every ending behind a command that is handled, wherever it was asked, and behind one that is ignored. Command t leads to state t; state 0
+# has no when clause, 1 stays, 2 runs its command 20, 3 moves to itself. The phase is the left state's, not the asked one's
+TO = [(t, send(10 + t) + go(t)) for t in range(4)]
+ENDINGS = node(([], TO), ([when(SURE, STAY)], TO), ([when(SURE, DO, 4)], TO + [(20, send(21))]), ([when(SURE, MOVE_TO, 3)], TO))
+for t, own, behind, more in [
+        (0, "00000a", "none 0 0 0 -", ""),
+        (1, "00000b", "stay 1 0 0 -", ""),
+        (2, "00000c", "do 2 0 3 20", "000015"),
+        (3, "00000d", "loop 3 4 0 -", ""),
+]:
+    later = len(more) // 2
+    for q in range(4):
+        case(command(ENDINGS, [(1, 0)], q, t, KEPT[:9]), "handled %d 3 %s %s" % (t, behind, own + more + KEPT[3 + later:9].hex()))
+    case(command(ENDINGS, [(1, 0)], t, 9, KEPT[:9]), "ignored %d 0 %s %s" % (t, behind, more + KEPT[later:9].hex()))
+    # the room is that of what is written: exactly that, and a byte less
+    case(command(ENDINGS, [(1, 0)], 0, t, KEPT[:3 + later]), "handled %d 3 %s %s" % (t, behind, own + more))
+    case(command(ENDINGS, [(1, 0)], 0, t, KEPT[:2 + later]), "refused 15 " + KEPT[:2 + later].hex())
+# what is ignored sends nothing itself, but the phase behind it may need room
+case(command(ENDINGS, [(1, 0)], 2, 9, SIX[:3]), "ignored 2 0 do 2 0 3 20 000015")
+case(command(ENDINGS, [(1, 0)], 2, 9, SIX[:2]), "refused 15 a1a2")
+case(command(ENDINGS, [(1, 0)], 2, 9, b""), "refused 15 -")
+case(command(ENDINGS, [(1, 0)], 3, 9, b""), "ignored 3 0 loop 3 4 0 - -")
+# with no child nothing is sent, and no room is needed
+case(command(ENDINGS, [], 0, 2, b""), "handled 2 0 do 2 0 0 20 -")
+case(command(ENDINGS, [], 0, 3, b""), "handled 3 0 loop 3 4 0 - -")
+case(command(ENDINGS, [], 2, 9, b""), "ignored 2 0 do 2 0 0 20 -")
+
+# behind an ignored command the phase moves by DOs and writes from the buffer's front on
+case(command(SETTLING, [(0, 0)], 0, 9, SIX), "ignored 0 0 none 1 1 3 - 000014a4a5a6")
+case(command(SETTLING, [(0, 1)], 0, 9, SIX), "ignored 0 0 stay 2 1 3 - 000015a4a5a6")
+case(command(SETTLING, [(0, 2)], 0, 9, SIX), "ignored 0 0 do 3 1 6 31 000016000029")
+case(command(SETTLING, [(0, 2)], 0, 9, SIX[:5]), "refused 15 a1a2a3a4a5")
+case(command(SETTLING, [(0, 2)], 1, 12, b""), "ignored 1 0 none 1 0 0 - -")       # a clause of state 0 is none of state 1
+# the command leaves the state whatever the when clauses of the asked one would have done
+case(command(SETTLING, [(0, 0)], 0, 11, SIX), "handled 2 3 stay 2 0 0 - 000015a4a5a6")
+case(command(SETTLING, [(0, 1)], 0, 10, SIX), "handled 1 3 none 1 0 0 - 000014a4a5a6")
+case(command(SETTLING, [(0, 0)], 0, 12, SIX), "handled 3 3 do 3 0 3 31 000016000029")
+case(command(SETTLING, [(0, 0)], 0, 12, SIX[:5]), "refused 15 a1a2a3a4a5")        # the command's own 3 bytes would fit
+
+# the command's own sends come first, the phase's directly behind them, each do in list order with places of the asked list
+case(command(IN_ORDER, THREE, 0, 7, KEPT), "handled 1 9 do 3 2 15 6 010001" "000002" "020002" "000003" "010003" "020003" "000004" "020004")
+case(command(IN_ORDER, THREE, 0, 7, KEPT[:23]), "refused 15 " + KEPT[:23].hex())
+case(command(IN_ORDER, THREE, 2, 7, KEPT), "handled 2 9 do 3 1 15 6 000009" "010009" "020009" "000003" "010003" "020003" "000004" "020004")
+case(command(IN_ORDER, THREE, 2, 8, KEPT), "handled 3 9 do 3 0 6 6 000003" "010003" "020003" "000004" "020004" + KEPT[15:].hex())
+case(command(IN_ORDER, THREE, 1, 7, KEPT[:15]), "ignored 1 0 do 3 2 15 6 000003" "010003" "020003" "000004" "020004")
+case(command(IN_ORDER, THREE, 1, 7, KEPT[:14]), "refused 15 " + KEPT[:14].hex())
+# a command that does not move, and then a DO of the same state that does, and a DO that closes the phase
+ALARM = node(([when(0, DO, 1)], [(1, send(1)), (2, send(2) + go(1))]), ([when(1, DO, 0)], [(3, send(3))]))
+case(command(ALARM, [(0, 0)], 0, 1, SIX), "handled 0 3 none 1 1 3 - 000001000002")
+case(command(ALARM, [(0, 0), (0, 1)], 0, 1, KEPT), "handled 0 6 do 1 1 12 3 000001" "010001" "000002" "010002" "000003" "010003" + KEPT[18:].hex())
+case(command(ALARM, [(0, 0), (0, 1)], 0, 1, KEPT[:17]), "refused 15 " + KEPT[:17].hex())
+case(command(ALARM, [(0, 0), (0, 1)], 0, 2, KEPT[:12]), "handled 1 6 do 1 0 6 3 000002" "010002" "000003" "010003")
+case(command(ALARM, [(0, 2)], 0, 1, SIX), "handled 0 3 none 0 0 0 - 000001a4a5a6")
+case(command(ALARM, [(0, 1)], 1, 1, SIX), "ignored 1 0 do 1 0 3 3 000003a4a5a6")
+# the children do not change meanwhile: the guards of the phase find what the command's if found
+case(command(STILL, [(0, 0)], 0, 1, KEPT[:12]), "handled 1 6 do 1 0 3 1 000002" "000003" "000004" "c9cacb")
+case(command(STILL, [(0, 1)], 0, 1, SIX), "handled 2 3 none 2 0 0 - 000002a4a5a6")
+
+# the same clause may run as the command and again as a DO: both are written
+case(command(SETTLING, [(0, 2)], 3, 31, SIX), "handled 3 3 do 3 0 3 31 000029000029")
+case(command(SETTLING, [(0, 2)], 3, 31, SIX[:5]), "refused 15 a1a2a3a4a5")
+case(command(IN_ORDER, THREE, 3, 6, KEPT), "handled 3 6 do 3 0 6 6 000004" "020004" "000004" "020004" + KEPT[12:].hex())
+TWICE = "000003" "010003" "000009" "010009" "000009" "010009"                    # no name 4: the if takes its else-part, and nothing moves
+case(command(IN_ORDER, [(1, 0), (0, 5)], 2, 8, FIFTY[:36]), "handled 2 18 do 2 0 18 8 " + TWICE + TWICE)
+case(command(IN_ORDER, [(1, 0), (0, 5)], 2, 8, FIFTY[:35]), "refused 15 " + FIFTY[:35].hex())
+case(command(RETRY, [(0, 2)], 1, 5, KEPT[:12]), "handled 1 6 do 1 0 6 5 000001" "000002" "000001" "000002")
+case(command(EMPTY_DO, [(0, 0)], 0, 63, b""), "handled 0 0 do 0 0 0 63 -")       # an empty clause, twice
+
+# a loop behind a command: the command's own sends alone are written and need room; what the ring's DOs sent, by the same clause too, is not
+case(command(DO_TWO, [(1, 0)], 0, 1, SIX), "handled 1 3 loop 1 2 0 - 000002a4a5a6")
+case(command(DO_TWO, [(1, 0)], 0, 1, SIX[:3]), "handled 1 3 loop 1 2 0 - 000002")
+case(command(DO_TWO, [(1, 0)], 0, 1, SIX[:2]), "refused 15 a1a2")
+case(command(DO_TWO, [(1, 0)], 0, 1, b""), "refused 15 -")
+case(command(DO_TWO, [(1, 0)], 1, 1, SIX), "handled 0 3 loop 0 2 0 - 000003a4a5a6")
+case(command(DO_TWO, [(1, 0)], 1, 2, b""), "ignored 1 0 loop 1 2 0 - -")
+case(command(DO_TWO, [(1, 0)], 1, 2, SIX), "ignored 1 0 loop 1 2 0 - a1a2a3a4a5a6")
+case(command(MIXED_TWO, [(1, 0)], 1, 1, SIX[:3]), "handled 0 3 loop 0 2 0 - 000003")
+case(command(MIXED_TWO, [(1, 0)], 0, 1, b""), "ignored 0 0 loop 0 2 0 - -")
+case(command(DO_TAIL, [(1, 0)], 0, 1, SIX), "handled 1 3 loop 2 3 0 - 000002a4a5a6")           # 2, 1, 2
+case(command(DO_RING, [(1, 0)], 5, 5, SIX), "handled 6 3 loop 6 32 0 - 000005a4a5a6")
+case(command(DO_RING, [(1, 0)], 31, 31, SIX[:3]), "handled 0 3 loop 0 32 0 - 00001f")
+case(command(DO_RING, [(1, 0)], 31, 30, b""), "ignored 31 0 loop 31 32 0 - -")
+case(command(RETRY, [(0, 0)], 0, 5, b""), "ignored 0 0 loop 1 3 0 - -")                        # 1, and then twice to itself
+
+# a move_to to the own state is handled, the state the same, and the phase follows; what stands behind the move_to is not run
+HOME = node(([when(0, MOVE_TO, 1)], [(7, send(1) + go(0) + send(9))]), ([], []))
+case(command(HOME, [(0, 0)], 0, 7, SIX), "handled 0 3 none 1 1 0 - 000001a4a5a6")
+case(command(HOME, [(0, 1)], 0, 7, SIX), "handled 0 3 none 0 0 0 - 000001a4a5a6")
+case(command(RETRY, [(0, 0)], 1, 5, SIX), "handled 1 3 loop 1 3 0 - 000001a4a5a6")
+case(command(RETRY, [(0, 0), (0, 1)], 1, 5, SIX), "handled 1 6 stay 1 0 0 - 000001010001")
+
+# the command's move_to does not count among the moves, nor to the S that decide: with S of 1, of 2, and of 32, where it leads back to the
+# beginning of a chain of 31
+case(command(node(([], [(0, go(0))])), [], 0, 0, b""), "handled 0 0 none 0 0 0 - -")
+BACK_TWO = node(([when(SURE, MOVE_TO, 1)], []), ([], [(0, send(5) + go(0))]))
+case(command(BACK_TWO, [(1, 0)], 1, 0, SIX), "handled 0 3 none 1 1 0 - 000005a4a5a6")
+case(command(BACK_TWO, [(1, 0)], 0, 0, SIX), "ignored 0 0 none 1 1 0 - a1a2a3a4a5a6")
+BACK = do_chain([], [(40, send(40) + go(0))])
+case(command(BACK, [(1, 0)], 31, 40, NINETY_NINE), "handled 0 3 none 31 31 93 - 000028" + CHAIN_SENT.hex() + "bbbbbb")
+case(command(BACK, [(1, 0)], 31, 40, NINETY_NINE[:96]), "handled 0 3 none 31 31 93 - 000028" + CHAIN_SENT.hex())
+case(command(BACK, [(1, 0)], 31, 40, NINETY_NINE[:95]), "refused 15 " + "bb" * 95)
+case(command(BACK, [(1, 0)], 0, 0, NINETY_NINE[:93]), "handled 1 3 none 31 30 90 - " + CHAIN_SENT.hex())
+BACK_STAY = do_chain([when(SURE, STAY)], [(40, go(0))])
+case(command(BACK_STAY, [(1, 0)], 31, 40, NINETY_NINE[:93]), "handled 0 0 stay 31 31 93 - " + CHAIN_SENT.hex())
+BACK_DO = do_chain([when(SURE, DO, 1)], [(40, send(40) + go(0)), (41, send(41))])
+case(command(BACK_DO, [(1, 0)], 31, 40, NINETY_NINE), "handled 0 3 do 31 31 96 41 000028" + CHAIN_SENT.hex() + "000029")
+case(command(BACK_DO, [(1, 0)], 31, 40, NINETY_NINE[:98]), "refused 15 " + "bb" * 98)
+# one move more is a loop, whether the command moved or not
+BACK_RING = do_chain([when(SURE, MOVE_TO, 0)], [(40, send(40) + go(0)), (41, send(41))])
+case(command(BACK_RING, [(1, 0)], 31, 40, SIX[:3]), "handled 0 3 loop 0 32 0 - 000028")
+case(command(BACK_RING, [(1, 0)], 31, 41, SIX[:3]), "handled 31 3 loop 31 32 0 - 000029")
+
+# 12 where the state has no such clause, too, and before 15; 11 before 12, 10 before 11, the sheet before all; also where the phase loops
+case(command(SETTLING, [(0, 2)], 3, 64, b""), "refused 12 -")
+case(command(SETTLING, [(0, 2)], 3, 64, SIX), "refused 12 a1a2a3a4a5a6")
+case(command(SETTLING, [(0, 2)], 1, 255, SIX), "refused 12 a1a2a3a4a5a6")
+case(command(SETTLING, [(0, 2)], 3, 63, SIX), "ignored 3 0 do 3 0 3 31 000029a4a5a6")
+case(command(SETTLING, [(0, 2)], 4, 64, b""), "refused 11 -")
+case(command(SETTLING, [(0, 8)], 4, 64, SIX), "refused 10 a1a2a3a4a5a6")
+case(command(patched(SETTLING, 0, 25), [(0, 8)], 4, 64, SIX), "refused 2 a1a2a3a4a5a6")
+case(command(OWN_DO, [(1, 0)], 0, 64, b""), "refused 12 -")
+case(command(OWN_DO, [(1, 0)], 1, 5, b""), "refused 11 -")
+case(command(OWN_DO, [(1, 1)], 0, 5, b""), "refused 10 -")
+case(command(OWN_DO, [(1, 0)], 0, 5, b""), "refused 15 -")
+
+# the longest sheet with DOs, from state 0, where the same clause runs twice, from state 1, and with the empty list, whose ring is 32 long
+case(command(LONGEST_DO, [(0, 0)], 0, 0, KEPT), "handled 0 6 do 0 0 6 0 00003f000000" "00003f000000" + KEPT[12:].hex())
+case(command(LONGEST_DO, [(0, 0)], 1, 16, KEPT[:6]), "handled 2 0 do 4 2 6 0 00003f000000")
+case(command(LONGEST_DO, [], 7, 16, KEPT), "handled 8 0 loop 8 32 0 - " + KEPT.hex())
+# as much as a line holds, of the command's own sends and of the phase's: 20 to each of 4,096 children, and 21 more
+LINE_COMMAND = node(([], [(0, send(1) * 20 + go(1))]), ([when(SURE, DO, 0)], [(2, send(2) * 21)]))
+MUCH = b"\xdd" * (524281 - len(LINE_COMMAND) - 2 * 4096)
+case(command(LINE_COMMAND, [(1, 0)] * 4096, 0, 0, MUCH), "handled 1 245760 do 1 0 258048 2 " + (MUCH_SENT + MUCH[503808:]).hex())
+assert len(QUESTIONS[-1]) == 1048576
+# neither count passes 65,535, but their sum, 73,728, does; less 65,536 it is 8,192
+SUM = node(([], [(0, send(1) * 3 + go(1))]), ([when(SURE, DO, 0)], [(2, send(2) * 3)]))
+case(command(SUM, [(1, 0)] * 4096, 0, 0, b"\xdd" * 8192), "refused 15 " + "dd" * 8192)
+case(command(SUM, [(1, 0)] * 4096, 0, 0, b"\xdd" * 73727), "refused 15 " + "dd" * 73727)
 
 # --------------------------------------------------------------------------------------------------------------------------- the loop question
 

@@ -8,8 +8,13 @@ use mathlib.Core.List.{List, [], _∷_, _++_, append-nil, append-assoc}
 use lib.ListN.{length, take, getD, length-append}
 use lib.Seq.{take-all}
 use Rattle.model.specs.Refusals.{number-of}
-use Rattle.model.specs.Answers.{loop-numbers}
+use Rattle.model.specs.Answers.{phased-values, handled-values, loop-numbers}
 use Rattle.model.specs.declared.Refusal.{Refusal}
+use Rattle.model.specs.declared.Ending.the-variants.{ByNone, ByStay, ByDo}
+use Rattle.model.specs.declared.Phase.{Phase}
+use Rattle.model.specs.declared.Phase.the-variants.{Settled, Loops as Looping}
+use Rattle.model.specs.declared.Handling.{Handling}
+use Rattle.model.specs.declared.Handling.the-variants.{Ignored, Handled}
 use Rattle.model.specs.declared.Loops.the-variants.{Loop, Free}
 use Rattle.model.specs.declared.LoopAnswer.{LoopAnswer}
 use Rattle.model.specs.declared.LoopAnswer.the-variants.{Refused, Given}
@@ -17,7 +22,7 @@ use Rattle.model.proofs.RefusalLaws.{numbered-from-1}
 use Rattle.texts.specs.Texts.{Appended, decimal-text, number-text, hex-text}
 use Rattle.texts.proofs.Decimals.{decimal-length}
 use Rattle.texts.proofs.Appending.{appended-same}
-use Rattle.lines.specs.Lines.{refused-word, do-word, loop-word, free-word, said, empty-field, string-field, text-of, phase-text, loop-text, one-case, child-field, child-fields, is-loop, loopcheck-line}
+use Rattle.lines.specs.Lines.{refused-word, do-word, loop-word, free-word, said, empty-field, string-field, text-of, phase-text, handled-text, command-text, loop-text, one-case, child-field, child-fields, is-loop, loopcheck-line}
 
 -- a refusal has the same text whatever was asked
 refusal-text : (words : List (List ℕ)) (n : ℕ) → 1 ≤ n → text-of words (n ∷ []) ≡ said refused-word (n ∷ [])
@@ -33,9 +38,24 @@ told-refused words l m end x a = rw (refusal-text words (number-of x) (numbered-
 pub phase-refused : (l m : List ℕ) (end : ℕ) (x : Refusal) → Appended l m 0 (said refused-word (number-of x ∷ [])) end → Appended l m 0 (phase-text (number-of x ∷ [])) end
 phase-refused l m end x a = rw append-nil (told-refused _ l m end x a)
 
-pub phase-closed : (l m : List ℕ) (end q moves n c : ℕ) → Appended l m 0 (said do-word (q ∷ moves ∷ n ∷ c ∷ [])) end → Appended l m 0 (phase-text (0 ∷ 2 ∷ q ∷ moves ∷ n ∷ c ∷ [])) end
+pub phase-closed : (l m : List ℕ) (at end q moves n c : ℕ) → Appended l m at (said do-word (q ∷ moves ∷ n ∷ c ∷ [])) end → Appended l m at (phase-text (0 ∷ 2 ∷ q ∷ moves ∷ n ∷ c ∷ [])) end
 unfolding text-of
-phase-closed l m end q moves n c a = appended-same l m 0 end _ _ (sym (append-nil (said do-word (q ∷ moves ∷ n ∷ c ∷ [])))) a
+phase-closed l m at end q moves n c a = appended-same l m at end _ _ (sym (append-nil (said do-word (q ∷ moves ∷ n ∷ c ∷ [])))) a
+
+-- of a command that is refused, no phase stands behind the text; else it does
+pub command-refused : (l m : List ℕ) (end : ℕ) (x : Refusal) → Appended l m 0 (said refused-word (number-of x ∷ [])) end → Appended l m 0 (command-text (number-of x ∷ [])) end
+command-refused l m end x a = rw append-nil (told-refused _ l m end x a)
+
+pub command-given : (h : Handling) (p : Phase) → handled-text (0 ∷ handled-values h) ++ (32 ∷ phase-text (0 ∷ phased-values p)) ≡ command-text (0 ∷ (handled-values h ++ phased-values p))
+unfolding text-of
+command-given (Ignored q) (Settled ByNone r m n) = refl
+command-given (Ignored q) (Settled ByStay r m n) = refl
+command-given (Ignored q) (Settled (ByDo c) r m n) = refl
+command-given (Ignored q) (Looping r m) = refl
+command-given (Handled q own) (Settled ByNone r m n) = refl
+command-given (Handled q own) (Settled ByStay r m n) = refl
+command-given (Handled q own) (Settled (ByDo c) r m n) = refl
+command-given (Handled q own) (Looping r m) = refl
 
 -- so of an answer of one case; of a class text that is refused for another reason than its words
 case-refusal : (word : List ℕ) (n : ℕ) → 1 ≤ n → one-case word (n ∷ []) ≡ said refused-word (n ∷ [])

@@ -4,7 +4,7 @@ use Prim.Native.Nat.{ℕ, zero, suc}
 use mathlib.Core.Bool.{Bool, cond, _&&_}
 use mathlib.Core.List.{List, [], _∷_, _++_}
 use lib.Dec.{eqb}
-use lib.ListN.{length, getD}
+use lib.ListN.{length, take, drop, getD}
 use Rattle.texts.specs.Texts.{decimal-text, number-text, hex-text}
 
 -- the answer to a line that is no question; the words of the cases
@@ -79,8 +79,18 @@ probe-text = text-of (none-word ∷ clause-word ∷ [])
 abbrev pub phase-text : List ℕ → List ℕ
 phase-text ns = text-of (none-word ∷ stay-word ∷ do-word ∷ loop-word ∷ []) ns ++ cond (eqb (length ns) 5) empty-field []
 
+-- the command's own part of its answer
+abbrev pub handled-text : List ℕ → List ℕ
+handled-text = text-of (ignored-word ∷ handled-word ∷ [])
+
+-- the values of a phase behind something: a space, then the phase's text; a refused command has none
+abbrev pub phase-field : List ℕ → List ℕ
+phase-field [] = []
+phase-field (v ∷ vs) = 32 ∷ phase-text (0 ∷ v ∷ vs)
+
+-- the first four numbers are the command's own, behind them are the values of the phase
 abbrev pub command-text : List ℕ → List ℕ
-command-text = text-of (ignored-word ∷ handled-word ∷ [])
+command-text ns = handled-text (take 4 ns) ++ phase-field (drop 4 ns)
 
 abbrev pub loop-text : List ℕ → List ℕ
 loop-text = text-of (free-word ∷ loop-word ∷ [])

@@ -1,5 +1,5 @@
-// The lines of the answers, each written from the buffer's front on; what is answered is the place behind it. What does not fit is cut
-// off at the buffer's end.
+// The lines of the answers, each written from the buffer's front on, and their parts, each from a place on; what is answered is the place
+// behind it. What does not fit is cut off at the buffer's end.
 use model::CommandAnswer;
 use model::Ending;
 use model::Handling;
@@ -23,7 +23,7 @@ ghost use Rattle.model.specs.Refusals.{number-of};
 ghost use Rattle.model.specs.Values.{referrer-values, probed-values, settled-values};
 ghost use Rattle.model.specs.Answers.{referrer-as, probed-as, ending-as, phased-values, handled-values, looped-values, judge-numbers, probe-numbers, phase-numbers, command-numbers, loop-numbers};
 ghost use Rattle.texts.specs.Texts.{Appended};
-ghost use Rattle.lines.specs.Lines.{bad-line, clause-word, refused-word, empty-field, string-field, said, judge-text, probe-text, phase-text, command-text, loop-text, phase-line, command-line, loop-line};
+ghost use Rattle.lines.specs.Lines.{bad-line, clause-word, refused-word, empty-field, string-field, said, judge-text, probe-text, phase-text, handled-text, command-text, loop-text, phase-line, command-line, loop-line};
 
 // A line that is no question.
 pub fn bad_line(out: &mut [u8]) -> usize
@@ -33,34 +33,34 @@ pub fn bad_line(out: &mut [u8]) -> usize
 }
 
 // A word and a number.
-pub fn say_one(word: &[u8], x: u64, out: &mut [u8]) -> usize
-    ensures { λ r. ⌜ Appended (now (out .entry)) (now (out .exit)) 0 (said (now (word .entry)) (x ∷ [])) r ⌝ }
+pub fn say_one(out: &mut [u8], at: usize, word: &[u8], x: u64) -> usize
+    ensures { λ r. ⌜ Appended (now (out .entry)) (now (out .exit)) at (said (now (word .entry)) (x ∷ [])) r ⌝ }
 {
-    let end = append_bytes(out, 0, word);
+    let end = append_bytes(out, at, word);
     append_number(out, end, x)
 }
 
 // A word and two numbers.
-pub fn say_two(word: &[u8], x: u64, y: u64, out: &mut [u8]) -> usize
-    ensures { λ r. ⌜ Appended (now (out .entry)) (now (out .exit)) 0 (said (now (word .entry)) (x ∷ y ∷ [])) r ⌝ }
+pub fn say_two(out: &mut [u8], at: usize, word: &[u8], x: u64, y: u64) -> usize
+    ensures { λ r. ⌜ Appended (now (out .entry)) (now (out .exit)) at (said (now (word .entry)) (x ∷ y ∷ [])) r ⌝ }
 {
-    let end = say_one(word, x, out);
+    let end = say_one(out, at, word, x);
     append_number(out, end, y)
 }
 
 // A word and three numbers.
-fn say_three(word: &[u8], x: u64, y: u64, z: u64, out: &mut [u8]) -> usize
-    ensures { λ r. ⌜ Appended (now (out .entry)) (now (out .exit)) 0 (said (now (word .entry)) (x ∷ y ∷ z ∷ [])) r ⌝ }
+fn say_three(out: &mut [u8], at: usize, word: &[u8], x: u64, y: u64, z: u64) -> usize
+    ensures { λ r. ⌜ Appended (now (out .entry)) (now (out .exit)) at (said (now (word .entry)) (x ∷ y ∷ z ∷ [])) r ⌝ }
 {
-    let end = say_two(word, x, y, out);
+    let end = say_two(out, at, word, x, y);
     append_number(out, end, z)
 }
 
 // A word and four numbers.
-fn say_four(word: &[u8], x: u64, y: u64, z: u64, last: u64, out: &mut [u8]) -> usize
-    ensures { λ r. ⌜ Appended (now (out .entry)) (now (out .exit)) 0 (said (now (word .entry)) (x ∷ y ∷ z ∷ last ∷ [])) r ⌝ }
+fn say_four(out: &mut [u8], at: usize, word: &[u8], x: u64, y: u64, z: u64, last: u64) -> usize
+    ensures { λ r. ⌜ Appended (now (out .entry)) (now (out .exit)) at (said (now (word .entry)) (x ∷ y ∷ z ∷ last ∷ [])) r ⌝ }
 {
-    let end = say_three(word, x, y, z, out);
+    let end = say_three(out, at, word, x, y, z);
     append_number(out, end, last)
 }
 
@@ -68,7 +68,7 @@ fn say_four(word: &[u8], x: u64, y: u64, z: u64, last: u64, out: &mut [u8]) -> u
 pub fn refused(x: Refusal, out: &mut [u8]) -> usize
     ensures { λ r. ⌜ Appended (now (out .entry)) (now (out .exit)) 0 (said refused-word (number-of x ∷ [])) r ⌝ }
 {
-    say_one(b"refused", refusal_number(x), out)
+    say_one(out, 0, b"refused", refusal_number(x))
 }
 
 // A further field with nothing to say: a space, then `-`.
@@ -104,9 +104,9 @@ fn clause_line(i: usize, referrer: Referrer, out: &mut [u8]) -> usize
     ensures { λ r. ⌜ Appended (now (out .entry)) (now (out .exit)) 0 (said clause-word (i ∷ referrer-values (referrer-as referrer))) r ⌝ }
 {
     match referrer {
-        Referrer::MoveTo(q) => say_three(b"clause", i as u64, 0, q.0 as u64, out),
-        Referrer::Do(a) => say_three(b"clause", i as u64, 1, a as u64, out),
-        Referrer::Stay => say_three(b"clause", i as u64, 2, 0, out),
+        Referrer::MoveTo(q) => say_three(out, 0, b"clause", i as u64, 0, q.0 as u64),
+        Referrer::Do(a) => say_three(out, 0, b"clause", i as u64, 1, a as u64),
+        Referrer::Stay => say_three(out, 0, b"clause", i as u64, 2, 0),
     }
 }
 
@@ -131,38 +131,60 @@ pub fn probe_line(answer: ProbeAnswer, out: &mut [u8]) -> usize
 }
 
 // ENDING STATE MOVES WRITTEN and `-`: a phase that no DO closed.
-fn say_unclosed(ending: &[u8], q: OwnState, moves: usize, written: usize, out: &mut [u8]) -> usize
-    ensures { λ r. ⌜ Appended (now (out .entry)) (now (out .exit)) 0 (said (now (ending .entry)) (q .0 ∷ moves ∷ written ∷ []) ++ empty-field) r ⌝ }
+fn append_unclosed(
+    out: &mut [u8],
+    at: usize,
+    ending: &[u8],
+    q: OwnState,
+    moves: usize,
+    written: usize,
+) -> usize
+    ensures { λ r. ⌜ Appended (now (out .entry)) (now (out .exit)) at (said (now (ending .entry)) (q .0 ∷ moves ∷ written ∷ []) ++ empty-field) r ⌝ }
 {
-    let end = say_three(ending, q.0 as u64, moves as u64, written as u64, out);
+    let end = say_three(out, at, ending, q.0 as u64, moves as u64, written as u64);
     append_empty(out, end)
 }
 
 // none STATE MOVES WRITTEN -, stay STATE MOVES WRITTEN -, or do STATE MOVES WRITTEN COMMAND
-fn settled_line(ending: Ending, q: OwnState, moves: usize, written: usize, out: &mut [u8]) -> usize
-    ensures { λ r. ⌜ Appended (now (out .entry)) (now (out .exit)) 0 (phase-text (0 ∷ settled-values (ending-as ending) (q .0) moves written)) r ⌝ }
+fn append_settled(
+    out: &mut [u8],
+    at: usize,
+    ending: Ending,
+    q: OwnState,
+    moves: usize,
+    written: usize,
+) -> usize
+    ensures { λ r. ⌜ Appended (now (out .entry)) (now (out .exit)) at (phase-text (0 ∷ settled-values (ending-as ending) (q .0) moves written)) r ⌝ }
 {
     match ending {
-        Ending::ByNone => say_unclosed(b"none", q, moves, written, out),
-        Ending::ByStay => say_unclosed(b"stay", q, moves, written, out),
+        Ending::ByNone => append_unclosed(out, at, b"none", q, moves, written),
+        Ending::ByStay => append_unclosed(out, at, b"stay", q, moves, written),
         Ending::ByDo(c) => say_four(
+            out,
+            at,
             b"do",
             q.0 as u64,
             moves as u64,
             written as u64,
             c as u64,
-            out,
         ),
     }
 }
 
 // The same, or loop STATE MOVES 0 -
-fn phased_line(phase: Phase, out: &mut [u8]) -> usize
-    ensures { λ r. ⌜ Appended (now (out .entry)) (now (out .exit)) 0 (phase-text (0 ∷ phased-values phase)) r ⌝ }
+fn append_phase(out: &mut [u8], at: usize, phase: Phase) -> usize
+    ensures { λ r. ⌜ Appended (now (out .entry)) (now (out .exit)) at (phase-text (0 ∷ phased-values phase)) r ⌝ }
 {
     match phase {
-        Phase::Settled(ending, q, moves, written) => settled_line(ending, q, moves, written, out),
-        Phase::Loops(q, moves) => say_unclosed(b"loop", q, moves, 0, out),
+        Phase::Settled(ending, q, moves, written) => append_settled(
+            out,
+            at,
+            ending,
+            q,
+            moves,
+            written,
+        ),
+        Phase::Loops(q, moves) => append_unclosed(out, at, b"loop", q, moves, 0),
     }
 }
 
@@ -172,7 +194,7 @@ fn phasing_line(answer: PhaseAnswer, out: &mut [u8]) -> usize
 {
     match answer {
         PhaseAnswer::Refused(x) => refused(x, out),
-        PhaseAnswer::Given(p) => phased_line(p, out),
+        PhaseAnswer::Given(p) => append_phase(out, 0, p),
     }
 }
 
@@ -184,14 +206,23 @@ pub fn phase_line(answer: PhaseAnswer, lent: &[u8], out: &mut [u8]) -> usize
     append_string(out, end, lent)
 }
 
-// handled STATE WRITTEN, or ignored STATE 0
+// handled LEFT OWN, or ignored LEFT 0
 fn handled_line(handling: Handling, out: &mut [u8]) -> usize
-    ensures { λ r. ⌜ Appended (now (out .entry)) (now (out .exit)) 0 (command-text (0 ∷ handled-values handling)) r ⌝ }
+    ensures { λ r. ⌜ Appended (now (out .entry)) (now (out .exit)) 0 (handled-text (0 ∷ handled-values handling)) r ⌝ }
 {
     match handling {
-        Handling::Ignored(q) => say_two(b"ignored", q.0 as u64, 0, out),
-        Handling::Handled(q, n) => say_two(b"handled", q.0 as u64, n as u64, out),
+        Handling::Ignored(q) => say_two(out, 0, b"ignored", q.0 as u64, 0),
+        Handling::Handled(q, n) => say_two(out, 0, b"handled", q.0 as u64, n as u64),
     }
+}
+
+// The same, and behind it the phase as it is told alone
+fn given_line(handling: Handling, phase: Phase, out: &mut [u8]) -> usize
+    ensures { λ r. ⌜ Appended (now (out .entry)) (now (out .exit)) 0 (command-text (0 ∷ (handled-values handling ++ phased-values phase))) r ⌝ }
+{
+    let end = handled_line(handling, out);
+    let next = append_byte(out, end, b' ');
+    append_phase(out, next, phase)
 }
 
 // The text of the command's answer.
@@ -200,7 +231,7 @@ fn handling_line(answer: CommandAnswer, out: &mut [u8]) -> usize
 {
     match answer {
         CommandAnswer::Refused(x) => refused(x, out),
-        CommandAnswer::Given(h) => handled_line(h, out),
+        CommandAnswer::Given(handling, phase) => given_line(handling, phase, out),
     }
 }
 
@@ -217,8 +248,8 @@ fn looped_line(loops: Loops, out: &mut [u8]) -> usize
     ensures { λ r. ⌜ Appended (now (out .entry)) (now (out .exit)) 0 (loop-text (0 ∷ looped-values loops)) r ⌝ }
 {
     match loops {
-        Loops::Loop(k, q) => say_two(b"loop", k as u64, q.0 as u64, out),
-        Loops::Free(moves) => say_one(b"free", moves as u64, out),
+        Loops::Loop(k, q) => say_two(out, 0, b"loop", k as u64, q.0 as u64),
+        Loops::Free(moves) => say_one(out, 0, b"free", moves as u64),
     }
 }
 

@@ -14,8 +14,8 @@ fn reading_line(answer: ReadAnswer, out: &mut [u8]) -> usize
 {
     match answer {
         ReadAnswer::Refused(x) => refused(x, out),
-        ReadAnswer::WrongWord(place) => say_two(b"refused", 16, place as u64, out),
-        ReadAnswer::Read(length, states) => say_two(b"read", length as u64, states as u64, out),
+        ReadAnswer::WrongWord(place) => say_two(out, 0, b"refused", 16, place as u64),
+        ReadAnswer::Read(length, states) => say_two(out, 0, b"read", length as u64, states as u64),
     }
 }
 

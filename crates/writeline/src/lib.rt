@@ -14,7 +14,7 @@ fn written_line(answer: WriteAnswer, out: &mut [u8]) -> usize
 {
     match answer {
         WriteAnswer::Refused(x) => refused(x, out),
-        WriteAnswer::Written(length) => say_one(b"written", length as u64, out),
+        WriteAnswer::Written(length) => say_one(out, 0, b"written", length as u64),
     }
 }
 
