@@ -92,11 +92,11 @@ static void probe(struct lent sheet, struct lent children, uint8_t state)
 }
 
 /* Prints the commands that were sent, as child/command, and the end of the line. */
-static void print_sent(const uint8_t *out, size_t end)
+static void print_sent(const uint8_t *sent, size_t length)
 {
     size_t i;
-    printf(", sent %u bytes%s", (unsigned)end, end > 0 ? ":" : "");
-    for (i = 0; i < end; i += 3) printf(" %u/%u", (unsigned)(out[i] + 256 * out[i + 1]), out[i + 2]);
+    printf(", sent %u bytes%s", (unsigned)length, length > 0 ? ":" : "");
+    for (i = 0; i < length; i += 3) printf(" %u/%u", (unsigned)(sent[i] + 256 * sent[i + 1]), sent[i + 2]);
     printf("\n");
 }
 
@@ -108,36 +108,48 @@ static void print_kept(const uint8_t *out, size_t end)
     printf("    bytes kept: %u of %u\n", (unsigned)kept, (unsigned)BUFFER);
 }
 
-/* The when phase from a state with these children and a buffer of so much room: where it settles, and what its DOs sent. */
-static void when_phase(struct lent sheet, struct lent children, uint8_t state, size_t room)
+/* Prints where a when phase settled, and what its DOs sent. */
+static void print_phase(uint64_t word, const uint8_t *sent)
 {
     static const char *const by[] = {"settled by no clause", "settled by STAY", "settled by DO", "loop"};
+    printf("%s, %s, moves %u", by[bw_kind(word)], own[bw_phase_state(word)], (unsigned)bw_phase_moves(word));
+    if (bw_kind(word) == BW_PHASE_DO) printf(", command %u", (unsigned)bw_phase_command(word));
+    print_sent(sent, bw_phase_written(word));
+}
+
+/* The when phase from a state with these children and a buffer of so much room. */
+static void when_phase(struct lent sheet, struct lent children, uint8_t state, size_t room)
+{
     uint8_t out[BUFFER];
     uint64_t word;
     memset(out, 0xee, sizeof out);
     word = bw_when_phase(sheet.bytes, sheet.length, children.bytes, children.length, state, out, room);
     printf("when phase, %s, from %s with %s, buffer of %u: ", sheet.name, own[state], children.name, (unsigned)room);
-    if (!refused(word)) {
-        printf("%s, %s, moves %u", by[bw_kind(word)], own[bw_phase_state(word)], (unsigned)bw_phase_moves(word));
-        if (bw_kind(word) == BW_PHASE_DO) printf(", command %u", (unsigned)bw_phase_command(word));
-        print_sent(out, bw_phase_written(word));
-    }
+    if (!refused(word)) print_phase(word, out);
     print_kept(out, bw_phase_written(word));
 }
 
-/* A command to the press in READY with these children and a buffer of so much room: what is sent. */
-static void command(struct lent children, uint8_t number, size_t room)
+/* A command in READY with these children and a buffer of so much room: its own answer, and the when phase from the state that it leaves. */
+static void command(struct lent sheet, struct lent children, uint8_t number, size_t room)
 {
+    const uint64_t before = 0xeeeeeeeeeeeeeeee;
+    uint64_t word, phase[1] = {before};
     uint8_t out[BUFFER];
-    uint64_t word;
+    size_t end = 0;
     memset(out, 0xee, sizeof out);
-    word = bw_command(press.bytes, press.length, children.bytes, children.length, 0, number, out, room);
-    printf("command %u in READY with %s, buffer of %u: ", number, children.name, (unsigned)room);
-    if (!refused(word)) {
-        printf("%s, %s", bw_kind(word) == BW_COMMAND_HANDLED ? "handled" : "ignored", own[bw_command_state(word)]);
-        print_sent(out, bw_command_written(word));
+    word = bw_command(sheet.bytes, sheet.length, children.bytes, children.length, 0, number, out, room, phase);
+    printf("command %u, %s, in READY with %s, buffer of %u: ", number, sheet.name, children.name, (unsigned)room);
+    if (refused(word)) {
+        printf("    the phase's word: %s\n", phase[0] == before ? "as it was" : "another");
+    } else {
+        end = bw_command_written(word);
+        printf("%s, state left: %s", bw_kind(word) == BW_COMMAND_HANDLED ? "handled" : "ignored", own[bw_command_state(word)]);
+        print_sent(out, end);
+        printf("    then the when phase: ");
+        print_phase(phase[0], out + end);
+        end += bw_phase_written(phase[0]);
     }
-    print_kept(out, bw_command_written(word));
+    print_kept(out, end);
 }
 
 /* The loop question, and the children that make the node loop. */
@@ -169,10 +181,10 @@ int main(void)
     probe(press, hot, 0);
     when_phase(press, cold_and_hot, 0, BUFFER);
     when_phase(press, hot, 1, 0); /* nothing is sent, and no room is needed */
-    command(hot, 9, BUFFER);
-    command(cold, 9, BUFFER);
-    command(hot, 7, BUFFER);
-    command(cold, 9, 5); /* six bytes would be sent: refused, and not one is written */
+    command(press, hot, 9, BUFFER);
+    command(press, cold, 9, BUFFER);
+    command(press, hot, 7, BUFFER);
+    command(press, cold, 9, 5); /* six bytes would be sent: refused, and not one is written */
     loop(press, 1);
     loop(press, 2);
 
@@ -189,12 +201,16 @@ int main(void)
     when_phase(oven, hot_and_fault, 0, 11); /* twelve bytes would be sent */
     when_phase(oven, fault, 0, BUFFER);
     when_phase(oven, hot, 1, BUFFER);
+    command(oven, hot_and_fault, 3, BUFFER); /* the phase's commands stand behind the command's own */
+    command(oven, hot_and_fault, 3, 11);
+    command(oven, hot_and_fault, 9, BUFFER); /* ignored, and the when phase follows all the same */
     loop(oven, 1);
 
     /* the same oven with command 3 moving to READY itself: a DO to the own state never ends, and nothing is sent */
     memcpy(copy, oven_bytes, sizeof oven_bytes);
     copy[77] = 0;
     when_phase(stuck, hot_and_fault, 0, 0);
+    command(stuck, hot_and_fault, 3, 6); /* the command's own commands are sent, and no more */
     loop(stuck, 1);
     return 0;
 }

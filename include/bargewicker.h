@@ -4,12 +4,13 @@
  *
  * Link with libbw.a, which 'rt staticlib bw' writes for x86-64 Linux to target/staticlib/.
  *
- * Nothing is asked of a call but that each pointer points at as many bytes as the length behind it says, and that a buffer to be
- * written overlaps nothing else that is lent. Any bytes and any numbers get an answer, and always the same one. A refusal writes
- * nothing, and bytes of a buffer behind those written are kept. No function keeps a pointer, allocates, or calls anything.
+ * Nothing is asked of a call but that each pointer points at as many bytes as the length behind it says, the one without a length at
+ * one word, and that what is to be written overlaps nothing else that is lent. Any bytes and any numbers get an answer, and always the
+ * same one. A refusal writes nothing, and bytes of a buffer behind those written are kept. No function keeps a pointer, allocates, or
+ * calls anything.
  *
  * Each function returns one word. Bits 0 to 7 are the refusal, 0 for none. Where there is none, bits 8 to 15 are the kind of the
- * answer, and the fields of that kind follow; every other bit is 0:
+ * answer, and the fields of that kind follow; every other bit is 0. A command has a second word, that of the when phase behind it:
  *
  *   question    kind           fields
  *   judge       0 accepted
@@ -19,8 +20,8 @@
  *               1 STAY         16-23 state, 24-31 moves, 40-63 bytes written
  *               2 DO           16-23 state, 24-31 moves, 32-39 command, 40-63 bytes written
  *               3 loop         16-23 state, 24-31 moves
- *   command     0 ignored      16-23 state
- *               1 handled      16-23 state, 32-63 bytes written
+ *   command     0 ignored      16-23 state left
+ *               1 handled      16-23 state left, 32-63 bytes of its own sends
  *   loop        0 free         24-31 moves
  *               1 loop         16-23 state, 32-63 configuration
  *   read        0 read         16-23 own states, 32-63 length of the sheet
@@ -90,11 +91,16 @@ uint64_t bw_probe(const uint8_t *sheet, size_t sheet_length, const uint8_t *chil
 uint64_t bw_when_phase(const uint8_t *sheet, size_t sheet_length, const uint8_t *children, size_t children_length, uint8_t state,
                        uint8_t *out, size_t room);
 
-/* What does the command send to which children, and which state does it leave? Three bytes for each command sent go to the buffer:
- * the child's place in the list, low byte first, and the command. Refusals 1 to 9, 10, 11, 12, and 15 where the buffer is too short
- * for what is sent; 12,582,912 bytes are enough for every command. */
+/* What does the command send to which children, and which state does it leave? And what does the when phase from that state come to? It
+ * follows every command; one that is ignored leaves the asked state and sends nothing.
+ * The word returned is the command's own answer. That of the phase goes to phase[0]: it is the word that bw_when_phase returns from the
+ * state left, so that bw_kind, bw_phase_state and so on read it. A refusal leaves phase[0] as it was. The command's move_to is none of
+ * the phase's moves.
+ * The bytes of the command's own sends, three for each as above, stand at the head of the buffer, and directly behind them those of the
+ * phase, which are none if it loops.
+ * Refusals 1 to 9, 10, 11, 12, and 15 where the buffer is too short for all that is sent; 25,165,824 bytes are enough for every command. */
 uint64_t bw_command(const uint8_t *sheet, size_t sheet_length, const uint8_t *children, size_t children_length, uint8_t state,
-                    uint8_t command, uint8_t *out, size_t room);
+                    uint8_t command, uint8_t *out, size_t room, uint64_t phase[1]);
 
 /* Can a node of this class loop, if children of the present classes (bit c for class c) are in any states? On a loop the answer is the
  * smallest configuration with one, the smallest state that returns to itself there, and in the buffer the children, two bytes, class
@@ -144,13 +150,14 @@ static inline uint32_t bw_probe_clause(uint64_t word) { return bw_field(word, 16
 static inline uint32_t bw_probe_referrer(uint64_t word) { return bw_field(word, 32, 8); }
 static inline uint32_t bw_probe_target(uint64_t word) { return bw_field(word, 40, 8); }
 
-/* The when phase: the state reached, the moves made, the command of the DO that it settled by, and how many bytes were written. */
+/* The when phase, asked for or behind a command: the state reached, the moves made, the command of the DO that it settled by, and how
+ * many bytes were written. */
 static inline uint32_t bw_phase_state(uint64_t word) { return bw_field(word, 16, 8); }
 static inline uint32_t bw_phase_moves(uint64_t word) { return bw_field(word, 24, 8); }
 static inline uint32_t bw_phase_command(uint64_t word) { return bw_field(word, 32, 8); }
 static inline uint32_t bw_phase_written(uint64_t word) { return bw_field(word, 40, 24); }
 
-/* The command: the state that it leaves, and how many bytes were written. */
+/* The command: the state that it leaves, and how many bytes of its own sends were written. */
 static inline uint32_t bw_command_state(uint64_t word) { return bw_field(word, 16, 8); }
 static inline uint32_t bw_command_written(uint64_t word) { return bw_field(word, 32, 32); }
 

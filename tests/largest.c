@@ -2,6 +2,7 @@
  * The largest answers from C. tests/c_example builds this program, runs it and compares what it prints with tests/largest.expected.
  *
  * The largest when phase: 4,096 children and an action clause of 1,024 statements, each to all of them, so that 12,582,912 bytes are sent.
+ * The largest request for a command: that clause is run for the command, and again by the DO of the when phase behind it.
  *
  * The longest class text: 1,244,410 bytes, from a sheet of 18,616 with all names of 31 characters. The 1,259,860 bytes that are proved to be
  * enough count 94 for every statement, as a do inside eight ifs has them; but 1,024 guards with all 32 names need 256 whens and 768 ifs, and
@@ -17,7 +18,7 @@ enum { NAME = 32, CLASS = 36, NAMES = 32, STATES = 32, WHENS = 256, GUARDS = 102
 
 static uint8_t sheet[24 + 4 + 4 + 4 + 8 + 4 + 8 * STATEMENTS];
 static uint8_t children[2 * CHILDREN]; /* zeros: all of class 0, in name 0 */
-static uint8_t out[MOST + 3];
+static uint8_t out[2 * MOST + 3];
 
 /* the sheet with the longest text, its names, and buffers to read that text back */
 static uint8_t full[24 + 4 * 8 + 4 * STATES + 4 * WHENS + 8 * GUARDS + 4 * ACTIONS + 8 * STATEMENTS];
@@ -52,15 +53,46 @@ static size_t kept(const uint8_t *bytes, size_t length)
     return i;
 }
 
-/* Asks with so much room. */
+/* Prints a when phase. */
+static void print_phase(uint64_t word)
+{
+    printf("refusal %u, kind %u, state %u, moves %u, command %u, bytes %u", (unsigned)bw_refusal(word), (unsigned)bw_kind(word),
+           (unsigned)bw_phase_state(word), (unsigned)bw_phase_moves(word), (unsigned)bw_phase_command(word),
+           (unsigned)bw_phase_written(word));
+}
+
+/* Prints what became of the buffer, and the end of the line. */
+static void print_buffer(void)
+{
+    printf("; sent %lu, kept %lu\n", (unsigned long)as_sent(), (unsigned long)kept(out, sizeof out));
+}
+
+/* Asks for the when phase with so much room. */
 static void when_phase(size_t room)
 {
     uint64_t word;
     memset(out, 0xee, sizeof out);
     word = bw_when_phase(sheet, sizeof sheet, children, sizeof children, 0, out, room);
-    printf("buffer of %lu: refusal %u, kind %u, state %u, moves %u, command %u, bytes %u; sent %lu, kept %lu\n", (unsigned long)room,
-           (unsigned)bw_refusal(word), (unsigned)bw_kind(word), (unsigned)bw_phase_state(word), (unsigned)bw_phase_moves(word),
-           (unsigned)bw_phase_command(word), (unsigned)bw_phase_written(word), (unsigned long)as_sent(), (unsigned long)kept(out, sizeof out));
+    printf("buffer of %lu: ", (unsigned long)room);
+    print_phase(word);
+    print_buffer();
+}
+
+/* Asks for command 9 with so much room. */
+static void command(size_t room)
+{
+    const uint64_t before = 0xeeeeeeeeeeeeeeee;
+    uint64_t word, phase[1] = {before};
+    memset(out, 0xee, sizeof out);
+    word = bw_command(sheet, sizeof sheet, children, sizeof children, 0, 9, out, room, phase);
+    printf("command, buffer of %lu: refusal %u, kind %u, state %u, bytes %u, bits without a field %u; phase: ", (unsigned long)room,
+           (unsigned)bw_refusal(word), (unsigned)bw_kind(word), (unsigned)bw_command_state(word), (unsigned)bw_command_written(word),
+           (unsigned)bw_field(word, 24, 8));
+    if (phase[0] == before)
+        printf("as it was");
+    else
+        print_phase(phase[0]);
+    print_buffer();
 }
 
 /* Puts a number of two bytes. */
@@ -164,6 +196,10 @@ int main(void)
     when_phase(MOST);
     when_phase(MOST - 1);
     when_phase(0);
+    command(2 * MOST + 3);
+    command(2 * MOST);
+    command(2 * MOST - 1);
+    command(MOST);
     make_full();
     write_class(LONGEST);
     write_class(LONGEST - 1);

@@ -4,5 +4,6 @@ pub mod Checks
 pub mod PhaseBounds
 pub mod TextBounds
 pub mod NothingLost
+pub mod PhaseAsAsked
 pub mod ReadingBounds
 pub mod NoReadingLost

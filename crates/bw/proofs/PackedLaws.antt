@@ -3,7 +3,8 @@
 use Prim.Native.Nat.{ℕ, _+_, _*_, _%_, _<_, _≤_}
 use native.Mathlib.Omega.{arith}
 use mathlib.Core.Path.{_≡_, sym, _∙_, ap}
-use mathlib.Core.List.{List, [], _∷_}
+use mathlib.Core.List.{List, [], _∷_, _++_}
+use borrow.Author.Tests.{ne-eqb}
 use Rattle.model.specs.Refusals.{number-of}
 use Rattle.model.specs.declared.Refusal.{Refusal}
 use Rattle.model.specs.declared.Refusal.the-variants.{SheetLength, Contents, EmptyNameSet, ClauseCounts, GuardLayout, GuardReach, Target, ActionClause, Statement, ChildList, AskedState, AskedCommand, PresentBit, NameCount, Room, Naming, Limit, WrittenGuards}
@@ -15,14 +16,20 @@ use Rattle.model.specs.Answers.{ending-as}
 use Rattle.model.specs.declared.Ending.{Ending}
 use Rattle.model.specs.declared.Ending.the-variants.{ByNone, ByStay, ByDo}
 use Rattle.model.specs.Values.{referrer-values, settled-values}
+use Rattle.model.specs.Answers.{handled-values, phased-values, command-numbers}
+use Rattle.model.specs.declared.CommandAnswer.{CommandAnswer}
+use Rattle.model.specs.declared.Handling.{Handling}
+use Rattle.model.specs.declared.Handling.the-variants.{Ignored, Handled}
+use Rattle.model.specs.declared.Phase.{Phase}
+use Rattle.model.proofs.RefusalLaws.{not-zero}
 use Rattle.model.specs.declared.ReadAnswer.{ReadAnswer}
 use Rattle.model.specs.declared.ReadAnswer.the-variants.{Refused, WrongWord, Read}
 use Rattle.readings.specs.Readings.{Lent, Outcome, reading-numbers}
 use Rattle.readings.specs.Promise.{reading-as, Answered}
 use Rattle.readings.proofs.ReadLaws.{reads}
-use Rattle.bargewicker.specs.Questions.{Question}
+use Rattle.bargewicker.specs.Questions.{Question, command-in}
 use Rattle.bargewicker.specs.Promises.{AnswerTo, numbers-of, Promised}
-use Rattle.bw.specs.Packed.{Kinds, side-by-side, fields, word, kinds, packed, kinds-of-judge, kinds-of-probe, kinds-of-phase, kinds-of-command, kinds-of-loop, kinds-of-text, Returned, OneWordAndBuffer}
+use Rattle.bw.specs.Packed.{Kinds, side-by-side, fields, word, kinds, held, packed, kinds-of-judge, kinds-of-probe, kinds-of-phase, kinds-of-command, kinds-of-loop, kinds-of-text, own-numbers, phase-word, array-after, BothWords, phase-after, Returned, ReturnedBoth, OneWordAndBuffer, OneOfBoth}
 use Rattle.bw.specs.PackedReading.{packed-reading, ReturnedReading, OneWordAndBuffers}
 
 -- the largest number of a refusal is 19
@@ -101,19 +108,40 @@ pub word-free : (m : ℕ) (ns : List ℕ) → ns ≡ 0 ∷ m ∷ [] → m % 256 
 unfolding word fields side-by-side
 word-free m ns f = rw f (omega arith)
 
+-- both words of a command: a refusal leaves the lent one as it was
+pub both-refused : (x : Refusal) (r : ℕ) → r ≡ number-of x → (ns before : List ℕ) → ns ≡ number-of x ∷ [] → BothWords ns before r before
+both-refused x r e ns before f = (word-refused kinds-of-command x r e (own-numbers ns) (ap own-numbers f), rw (f, ne-eqb (number-of x) 0 (not-zero x)))
+
+-- what is given has the words of its handling and of its phase
+pub both-given : (h : Handling) (p : Phase) (r w : ℕ) → r ≡ word kinds-of-command (0 ∷ handled-values h) → w ≡ word kinds-of-phase (0 ∷ phased-values p) → (ns before : List ℕ)
+    → ns ≡ 0 ∷ (handled-values h ++ phased-values p) → BothWords ns before r (w ∷ [])
+both-given (Ignored q) p r w e g ns before f = rw f (e, ap (λ (x : ℕ). x ∷ []) g)
+both-given (Handled q n) p r w e g ns before f = rw f (e, ap (λ (x : ℕ). x ∷ []) g)
+
 -- a text that was written
 pub word-written : (n : ℕ) (ns : List ℕ) → ns ≡ 0 ∷ n ∷ [] → n % 4294967296 * 4294967296 ≡ word kinds-of-text ns
 unfolding word fields side-by-side
 word-written n ns f = rw f (omega arith)
 
 -- the word of what a question is answered
-pub returned : (q : Question) (a : AnswerTo q) (w : ℕ) (after : List ℕ) → w ≡ word (kinds q) (numbers-of q a) → Promised q a after → Returned q w after
+pub returned : (q : Question) (a : AnswerTo q) (w : ℕ) (after : List ℕ) → w ≡ word (kinds q) (held q (numbers-of q a)) → Promised q a after → Returned q w after
 unfolding packed
-returned q a w after e h = record { word-is = e ∙ ap (word (kinds q)) (h .numbers-are); buffer-is = h .buffer-is }
+returned q a w after e h = record { word-is = e ∙ ap (λ (ns : List ℕ). word (kinds q) (held q ns)) (h .numbers-are); buffer-is = h .buffer-is }
+
+-- both words of what a command is answered
+pub returned-both : (b l : List ℕ) (q m : ℕ) (out : List ℕ) (a : CommandAnswer) (w : ℕ) (before after phase : List ℕ) → BothWords (command-numbers a) before w phase
+    → Promised (command-in b l q m out) a after → ReturnedBoth (command-in b l q m out) before w after phase
+unfolding phase-after
+returned-both b l q m out a w before after phase (e, f) h =
+    record { returned = returned (command-in b l q m out) a w after e h; phase-is = f ∙ ap (λ (ns : List ℕ). array-after phase-word ns before) (h .numbers-are) }
 
 -- the promise leaves one word and one content of the buffer
 pub one-word-and-buffer : OneWordAndBuffer
 one-word-and-buffer q r s x y f g = (f .word-is ∙ sym (g .word-is), f .buffer-is ∙ sym (g .buffer-is))
+
+-- and of a command one lent word
+pub one-of-both : OneOfBoth
+one-of-both q before r s x y u v f g = let (e, h) = one-word-and-buffer q r s x y (f .returned) (g .returned) in (e, h, f .phase-is ∙ sym (g .phase-is))
 
 -- a class text: refused, 16 with its place, or read
 module _ (a : ReadAnswer) where

@@ -2,11 +2,15 @@
 -- Assumes nothing.
 use Prim.Native.Nat.{ℕ, _+_, _*_, _/_, _%_, _^_, _<_, _≤_}
 use native.Mathlib.Omega.{arith}
-use mathlib.Core.Path.{_≡_, refl, _∙_, ap}
-use mathlib.Core.List.{List, [], _∷_, map}
+use mathlib.Core.Path.{_≡_, refl, sym, _∙_, ap}
+use mathlib.Core.Bool.{Bool, true, false}
+use mathlib.Core.List.{List, [], _∷_, _++_, map, append-nil, head-eq-of-cons-eq}
 use lib.Arith.{digits-div, digits-mod}
-use borrow.Author.Tests.{ne-eqb}
-use Rattle.bw.specs.Packed.{Field, refused, kind, clause, referrer, target, state, moves, to-do, phase-written, command-written, configuration, text-written, Kinds, behind, side-by-side, fields, word, read, unpacked, way, kinds-of-judge, kinds-of-probe, kinds-of-phase, kinds-of-command, kinds-of-loop, kinds-of-text}
+use lib.Dec.{eqb}
+use lib.ListN.{drop}
+use borrow.Author.Tests.{ne-eqb, eqb-true}
+use Rattle.model.specs.Words.{choose}
+use Rattle.bw.specs.Packed.{Field, refused, kind, clause, referrer, target, state, moves, to-do, phase-written, command-written, configuration, text-written, Kinds, behind, side-by-side, fields, word, read, unpacked, unpacked-both, way, kinds-of-judge, kinds-of-probe, kinds-of-phase, kinds-of-command, kinds-of-loop, kinds-of-text}
 
 -- a refusal, whatever was asked
 pub back-refused : (ks : Kinds) (n : ℕ) → 1 ≤ n → n < 256 → unpacked ks (word ks (n ∷ [])) ≡ n ∷ []
@@ -94,21 +98,56 @@ back-do q m n c l o r p = go (word kinds-of-phase (0 ∷ 2 ∷ q ∷ m ∷ n ∷
         let u = between to-do w n c (512 + q * 65536 + m * 16777216) (omega arith) (omega arith) p in
         given kinds-of-phase w 2 a b ∙ cc (b, x, y, z, u)
 
--- the state of a command and the bytes written; both kinds have them
-pub back-command : (k q n : ℕ) → k < 256 → q < 256 → n < 4294967296 → behind kinds-of-command k ≡ kind ∷ state ∷ command-written ∷ []
-    → unpacked kinds-of-command (word kinds-of-command (0 ∷ k ∷ q ∷ n ∷ [])) ≡ 0 ∷ k ∷ q ∷ n ∷ []
-unfolding side-by-side
-back-command k q n l o p f = go (word kinds-of-command (0 ∷ k ∷ q ∷ n ∷ [])) (of-kind kinds-of-command k (kind ∷ state ∷ command-written ∷ []) (q ∷ n ∷ []) f ∙ sum)
-  where
-    sum : side-by-side (refused ∷ kind ∷ state ∷ command-written ∷ []) (0 ∷ k ∷ q ∷ n ∷ []) ≡ k * 256 + q * 65536 + n * 4294967296
-    sum = omega arith
+-- the state of a command and its own bytes; both kinds have them
+module _ (k q n : ℕ) (l : k < 256) (o : q < 256) (p : n < 4294967296) (f : behind kinds-of-command k ≡ kind ∷ state ∷ command-written ∷ []) where
+  abbrev command-word : ℕ
+  command-word = word kinds-of-command (0 ∷ k ∷ q ∷ n ∷ [])
 
-    go : (w : ℕ) → w ≡ k * 256 + q * 65536 + n * 4294967296 → unpacked kinds-of-command w ≡ 0 ∷ k ∷ q ∷ n ∷ []
-    go w e =
-        let (a, b) = front w k (q + 65536 * n) (omega arith) l in
-        let x = state-in w k q (256 * n) (omega arith) l o in
-        let y = between command-written w 0 n (k * 256 + q * 65536) (omega arith) (omega arith) p in
-        given kinds-of-command w k a b ∙ ap (λ (fs : List Field). 0 ∷ map (read w) fs) f ∙ cc (b, x, y)
+  command-sum : command-word ≡ k * 256 + q * 65536 + n * 4294967296
+  unfolding side-by-side
+  command-sum = of-kind kinds-of-command k (kind ∷ state ∷ command-written ∷ []) (q ∷ n ∷ []) f ∙ sum
+    where
+      sum : side-by-side (refused ∷ kind ∷ state ∷ command-written ∷ []) (0 ∷ k ∷ q ∷ n ∷ []) ≡ k * 256 + q * 65536 + n * 4294967296
+      sum = omega arith
+
+  pub state-back : read command-word state ≡ q
+  state-back = go command-word command-sum
+    where
+      go : (w : ℕ) → w ≡ k * 256 + q * 65536 + n * 4294967296 → read w state ≡ q
+      go w e = state-in w k q (256 * n) (omega arith) l o
+
+  pub own-back : read command-word command-written ≡ n
+  own-back = go command-word command-sum
+    where
+      go : (w : ℕ) → w ≡ k * 256 + q * 65536 + n * 4294967296 → read w command-written ≡ n
+      go w e = between command-written w 0 n (k * 256 + q * 65536) (omega arith) (omega arith) p
+
+  pub back-command : unpacked kinds-of-command command-word ≡ 0 ∷ k ∷ q ∷ n ∷ []
+  back-command = go command-word command-sum state-back own-back
+    where
+      go : (w : ℕ) → w ≡ k * 256 + q * 65536 + n * 4294967296 → read w state ≡ q → read w command-written ≡ n → unpacked kinds-of-command w ≡ 0 ∷ k ∷ q ∷ n ∷ []
+      go w e x y =
+          let (a, b) = front w k (q + 65536 * n) (omega arith) l in
+          given kinds-of-command w k a b ∙ ap (λ (fs : List Field). 0 ∷ map (read w) fs) f ∙ cc (b, x, y)
+
+-- both words of a command: the first number of the first is its refusal
+pub refusal-in : (ks : Kinds) (w n : ℕ) (ns : List ℕ) → unpacked ks w ≡ n ∷ ns → read w refused ≡ n
+unfolding unpacked
+refusal-in ks w n ns = go (eqb (read w refused) 0) refl
+  where
+    go : (b : Bool) → eqb (read w refused) 0 ≡ b → choose b (λ _. 0 ∷ map (read w) (behind ks (read w kind))) (λ _. read w refused ∷ []) ≡ n ∷ ns → read w refused ≡ n
+    go true z e = eqb-true (read w refused) 0 z ∙ head-eq-of-cons-eq e
+    go false z e = head-eq-of-cons-eq e
+
+-- refused: that number alone, whatever the second is
+pub back-unanswered : (w v n : ℕ) → 1 ≤ n → unpacked kinds-of-command w ≡ n ∷ [] → unpacked-both w v ≡ n ∷ []
+unfolding unpacked-both
+back-unanswered w v n l e = rw (refusal-in kinds-of-command w n [] e, ne-eqb n 0 (λ z. let y : n ≡ 0 = z in omega arith)) (append-nil (unpacked kinds-of-command w) ∙ e)
+
+-- answered: the numbers of both
+pub back-both : (w v : ℕ) (ns ms : List ℕ) → unpacked kinds-of-command w ≡ 0 ∷ ns → unpacked kinds-of-phase v ≡ 0 ∷ ms → unpacked-both w v ≡ (0 ∷ ns) ++ ms
+unfolding unpacked-both
+back-both w v ns ms e f = rw (refusal-in kinds-of-command w 0 ns e, e, f)
 
 -- the moves of a class that is free of loops; the configuration and the state of a loop
 pub back-free : (m : ℕ) → m < 256 → unpacked kinds-of-loop (word kinds-of-loop (0 ∷ 0 ∷ m ∷ [])) ≡ 0 ∷ 0 ∷ m ∷ []

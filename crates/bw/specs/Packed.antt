@@ -1,10 +1,11 @@
--- The word that each exported function returns: the paper's numbers of the answer, each in its field of bits.
+-- The word that each exported function returns: the paper's numbers of the answer, each in its field of bits. A command's stand in two words, of
+-- which the second is lent.
 -- Assumes nothing.
 use Prim.Native.Nat.{ℕ, _+_, _*_, _/_, _%_, _^_, _≤_}
 use mathlib.Core.Path.{_≡_}
-use mathlib.Core.List.{List, [], _∷_, map}
+use mathlib.Core.List.{List, [], _∷_, _++_, map}
 use lib.Dec.{eqb}
-use lib.ListN.{length, getD}
+use lib.ListN.{length, getD, take, drop}
 use Rattle.model.specs.Words.{choose, Bytes}
 use Rattle.model.specs.Replies.{refuse, buffer-after}
 use Rattle.writings.specs.Layout.{Named}
@@ -49,7 +50,7 @@ to-do = field 32 8
 abbrev pub phase-written : Field
 phase-written = field 40 24
 
--- the number of bytes that a command wrote; the configuration of a loop
+-- the number of bytes of a command's own sends; the configuration of a loop
 abbrev pub command-written : Field
 command-written = field 32 32
 
@@ -120,14 +121,51 @@ fields ks (n ∷ k ∷ values) = refused ∷ behind ks k
 unfoldable pub word : Kinds → List ℕ → ℕ
 word ks ns = side-by-side (fields ks ns) ns
 
+-- a command's own numbers, of which there are four; and those of the phase behind it, as if it had been asked for, 0 for no refusal in front
+abbrev pub own-numbers : List ℕ → List ℕ
+own-numbers ns = take 4 ns
+
+abbrev pub phase-behind : List ℕ → List ℕ
+phase-behind ns = 0 ∷ drop 4 ns
+
+-- the numbers that the word of a question holds: all of them, but of a command only its own
+abbrev pub held : Question → List ℕ → List ℕ
+held (judge b) ns = ns
+held (probe-in b l q) ns = ns
+held (phase-from b l q out) ns = ns
+held (command-in b l q m out) ns = own-numbers ns
+held (loop-with b present out) ns = ns
+held (text-of b n out) ns = ns
+
 -- the word of a question
 unfoldable pub packed : Question → ℕ
-packed q = word (kinds q) (numbers-for q)
+packed q = word (kinds q) (held q (numbers-for q))
 
 -- the word and the buffer afterwards are those of the rules
 pub record Returned (q : Question) (r : ℕ) (after : List ℕ) : Type 0 where
   pub word-is : r ≡ packed q
   pub buffer-is : after ≡ buffer-after (reply q) (lent q)
+
+-- a lent array of fixed length afterwards: where nothing is refused, what the answer's numbers put there; a refusal leaves it as it was
+abbrev pub array-after : (List ℕ → List ℕ) → List ℕ → List ℕ → List ℕ
+array-after put ns before = choose (eqb (getD ns 0 0) 0) (λ _. put ns) (λ _. before)
+
+-- the word of the phase behind a command, in an array of its own
+abbrev pub phase-word : List ℕ → List ℕ
+phase-word ns = word kinds-of-phase (phase-behind ns) ∷ []
+
+-- both words, of a command's numbers: the one that is returned, and what the array that is lent for the other holds afterwards
+abbrev pub BothWords : List ℕ → List ℕ → ℕ → List ℕ → Type 0
+BothWords ns before r phase = (r ≡ word kinds-of-command (own-numbers ns)) × (phase ≡ array-after phase-word ns before)
+
+-- that array after a command
+unfoldable pub phase-after : Question → List ℕ → List ℕ
+phase-after q before = array-after phase-word (numbers-for q) before
+
+-- of a command: the word and the buffer afterwards are those of the rules, and so is the lent word of the phase
+pub record ReturnedBoth (q : Question) (before : List ℕ) (r : ℕ) (after phase : List ℕ) : Type 0 where
+  pub returned : Returned q r after
+  pub phase-is : phase ≡ phase-after q before
 
 -- a field of a word, as C reads it
 abbrev pub read : ℕ → Field → ℕ
@@ -136,6 +174,10 @@ read w f = w / 2 ^ f .lowest % 2 ^ f .width
 -- the numbers that a word holds: a refusal alone; or 0, and what is behind it
 unfoldable pub unpacked : Kinds → ℕ → List ℕ
 unpacked ks w = choose (eqb (read w refused) 0) (λ _. 0 ∷ map (read w) (behind ks (read w kind))) (λ _. read w refused ∷ [])
+
+-- the numbers that the two words of a command hold: those of the first; where nothing is refused, behind them those of the second without its 0
+unfoldable pub unpacked-both : ℕ → ℕ → List ℕ
+unpacked-both w v = unpacked kinds-of-command w ++ choose (eqb (read w refused) 0) (λ _. drop 1 (unpacked kinds-of-phase v)) (λ _. [])
 
 -- the sheet that a question is about
 abbrev pub sheet-of : Question → List ℕ
@@ -146,17 +188,36 @@ sheet-of (command-in b l q m out) = b
 sheet-of (loop-with b present out) = b
 sheet-of (text-of b n out) = b
 
--- every number of the answer is read back from its word, whatever bytes the sheet is
-abbrev pub NothingLost : Type 0
-NothingLost = (q : Question) → Bytes (sheet-of q) → unpacked (kinds q) (packed q) ≡ numbers-for q
+-- every number of the answer is read back, whatever bytes the sheet is
+pub record NothingLost : Type 0 where
+  -- those that the word holds, from it
+  pub from-the-word : (q : Question) → Bytes (sheet-of q) → unpacked (kinds q) (packed q) ≡ held q (numbers-for q)
+  -- all of a command's, from its word and the lent one, whatever that was before
+  pub from-both : (b l : List ℕ) (q m : ℕ) (out before : List ℕ) → Bytes b
+      → let c = command-in b l q m out in unpacked-both (packed c) (getD (phase-after c before) 0 0) ≡ numbers-for c
 
 -- two words that a function returns, and two contents of the buffer afterwards, are one
 abbrev pub OneWordAndBuffer : Type 0
 OneWordAndBuffer = (q : Question) (r s : ℕ) (x y : List ℕ) → Returned q r x → Returned q s y → (r ≡ s) × (x ≡ y)
 
+-- and so are two lent words of a command
+abbrev pub OneOfBoth : Type 0
+OneOfBoth = (q : Question) (before : List ℕ) (r s : ℕ) (x y u v : List ℕ) → ReturnedBoth q before r x u → ReturnedBoth q before s y v → (r ≡ s) × (x ≡ y) × (u ≡ v)
+
+-- the lent word is the one that bw_when_phase returns if it is asked from the state that the command's word has, on the buffer behind the
+-- command's own bytes; and the bytes that it leaves there are those of the command
+abbrev pub PhaseAsAsked : Type 0
+PhaseAsAsked = (b l : List ℕ) (q m : ℕ) (out before : List ℕ) → Bytes b → (r : ℕ) (after phase : List ℕ) → ReturnedBoth (command-in b l q m out) before r after phase
+    → read r refused ≡ 0 → (s : ℕ) (last : List ℕ) → Returned (phase-from b l (read r state) (drop (read r command-written) out)) s last
+    → (phase ≡ s ∷ []) × (last ≡ drop (read r command-written) after)
+
 -- a buffer of 12,582,912 bytes is always enough for what a when phase writes
 abbrev pub PhaseRoomEnough : Type 0
 PhaseRoomEnough = (b l : List ℕ) (q : ℕ) (out : List ℕ) → Bytes b → 12582912 ≤ length out → reply (phase-from b l q out) ≡ refuse 15 → ⊥
+
+-- one of 25,165,824 for what a command and the phase behind it write
+abbrev pub CommandRoomEnough : Type 0
+CommandRoomEnough = (b l : List ℕ) (q m : ℕ) (out : List ℕ) → Bytes b → 25165824 ≤ length out → reply (command-in b l q m out) ≡ refuse 15 → ⊥
 
 -- a buffer of 1,259,860 bytes is always enough for a text
 abbrev pub WriteRoomEnough : Type 0

@@ -1,6 +1,6 @@
-// The face for C: each question as an exported function that returns one word. A slice is a pointer and a length to C; nothing more is
-// asked of the caller, and a refusal writes nothing. What a word holds is in specs/Packed.antt, of a class text that is read in
-// specs/PackedReading.antt, and for C in include/bargewicker.h.
+// The face for C: each question as an exported function that returns one word; a command has a second one, which is lent. A slice is a
+// pointer and a length to C, an array of fixed length a pointer; nothing more is asked of the caller, and a refusal writes nothing. What a
+// word holds is in specs/Packed.antt, of a class text that is read in specs/PackedReading.antt, and for C in include/bargewicker.h.
 use model::CommandAnswer;
 use model::Ending;
 use model::Handling;
@@ -23,7 +23,7 @@ ghost use Rattle.model.specs.Answers.{probed-as, ending-as, phased-values, hand
 ghost use Rattle.bargewicker.specs.Questions.{judge, probe-in, phase-from, command-in, loop-with, text-of};
 ghost use Rattle.writings.specs.Writings.{named};
 ghost use Rattle.readings.specs.Promise.{asked, reading-as};
-ghost use Rattle.bw.specs.Packed.{word, kinds-of-judge, kinds-of-probe, kinds-of-phase, kinds-of-command, kinds-of-loop, kinds-of-text, Returned};
+ghost use Rattle.bw.specs.Packed.{word, kinds-of-judge, kinds-of-probe, kinds-of-phase, kinds-of-command, kinds-of-loop, kinds-of-text, BothWords, Returned, ReturnedBoth};
 ghost use Rattle.bw.specs.PackedReading.{packed-reading, ReturnedReading};
 
 // A value times one of these stands in its field of the word.
@@ -77,7 +77,8 @@ pub extern "C" fn bw_when_phase(sheet: &[u8], children: &[u8], state: u8, out: &
     pack_phase(bargewicker::when_phase(sheet, children, state, out))
 }
 
-// What does the command send to which children, and which state does it leave?
+// What does the command send to which children, and which state does it leave; and what does the when phase from that state come to? The
+// phase's word goes to the lent array.
 #[no_mangle]
 pub extern "C" fn bw_command(
     sheet: &[u8],
@@ -85,10 +86,14 @@ pub extern "C" fn bw_command(
     state: u8,
     command: u8,
     out: &mut [u8],
+    phase: &mut [u64; 1],
 ) -> u64
-    ensures { λ r. ⌜ Returned (command-in (now (sheet .entry)) (now (children .entry)) state command (now (out .entry))) r (now (out .exit)) ⌝ }
+    ensures { λ r. ⌜ ReturnedBoth (command-in (now (sheet .entry)) (now (children .entry)) state command (now (out .entry))) (now (phase .entry)) r (now (out .exit)) (now (phase .exit)) ⌝ }
 {
-    pack_command(bargewicker::command(sheet, children, state, command, out))
+    pack_command(
+        bargewicker::command(sheet, children, state, command, out),
+        phase,
+    )
 }
 
 // Which states of children of the present classes can make the node loop, or how many moves does it make at most?
@@ -158,12 +163,16 @@ fn pack_phase(answer: PhaseAnswer) -> u64
     }
 }
 
-fn pack_command(answer: CommandAnswer) -> u64
-    ensures { λ r. ⌜ r ≡ word kinds-of-command (command-numbers answer) ⌝ }
+// A command has two: that of its handling, and the lent one of the phase behind it, which a refusal leaves as it was.
+fn pack_command(answer: CommandAnswer, phase: &mut [u64; 1]) -> u64
+    ensures { λ r. ⌜ BothWords (command-numbers answer) (now (phase .entry)) r (now (phase .exit)) ⌝ }
 {
     match answer {
         CommandAnswer::Refused(x) => refusal_number(x),
-        CommandAnswer::Given(h) => pack_handling(h),
+        CommandAnswer::Given(h, p) => {
+            *phase = [pack_phased(p)];
+            pack_handling(h)
+        }
     }
 }
 
