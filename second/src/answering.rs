@@ -1,6 +1,6 @@
 //! The answer line to a question line, with the refusals that belong to the questions (10 to 19).
 
-use crate::behaviour::{command, phase, probe, Child, Ending, Phase};
+use crate::behaviour::{phase, probe, request, Child, Ending, Phase};
 use crate::judging::judge;
 use crate::lines::{hex, Question};
 use crate::lists::NAME_RECORD;
@@ -75,14 +75,20 @@ fn answer_phase(sheet: &[u8], list: &[u8], state: u8, buffer: &[u8]) -> Result<S
     let class = judge(sheet)?;
     let children = children(&class, list)?;
     rule_11(&class, state)?;
-    Ok(match phase(&class, &children, state) {
+    let phase = phase(&class, &children, state);
+    let after = written(buffer, phase.writes())?;
+    Ok(format!("{} {}", phase_fields(&phase), hex(&after)))
+}
+
+/// The five fields of a phase: how it ended, the state, the moves, the bytes of its commands, and the command of the DO that closed it.
+fn phase_fields(phase: &Phase) -> String {
+    match phase {
         Phase::Settled { ending, state, moves, sent } => {
-            let after = written(buffer, &sent)?;
-            let (word, command) = ending_words(ending);
-            format!("{word} {state} {moves} {} {command} {}", sent.len(), hex(&after))
+            let (word, command) = ending_words(*ending);
+            format!("{word} {state} {moves} {} {command}", sent.len())
         }
-        Phase::Loop { state, moves } => format!("loop {state} {moves} 0 - {}", hex(buffer)),
-    })
+        Phase::Loop { state, moves } => format!("loop {state} {moves} 0 -"),
+    }
 }
 
 /// How a phase ended, in a word, and the command of the DO that closed it.
@@ -100,7 +106,7 @@ fn written(buffer: &[u8], bytes: &[u8]) -> Result<Vec<u8>, u8> {
     Ok([bytes, behind].concat())
 }
 
-/// The command's answer.
+/// The command's answer, and behind it that of the when phase; 15 comes last, for what both write.
 fn answer_command(sheet: &[u8], list: &[u8], state: u8, asked: u8, buffer: &[u8]) -> Result<String, u8> {
     let class = judge(sheet)?;
     let children = children(&class, list)?;
@@ -108,10 +114,11 @@ fn answer_command(sheet: &[u8], list: &[u8], state: u8, asked: u8, buffer: &[u8]
     if asked > 63 {
         return Err(12);
     }
-    let run = command(&class, &children, state, asked);
-    let after = written(buffer, &run.sent)?;
-    let word = if run.handled { "handled" } else { "ignored" };
-    Ok(format!("{word} {} {} {}", run.state, run.sent.len(), hex(&after)))
+    let request = request(&class, &children, state, asked);
+    let after = written(buffer, &request.writes())?;
+    let word = if request.run.handled { "handled" } else { "ignored" };
+    let (left, own) = (request.run.state, request.run.sent.len());
+    Ok(format!("{word} {left} {own} {} {}", phase_fields(&request.phase), hex(&after)))
 }
 
 /// The loop question's answer.

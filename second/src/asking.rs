@@ -1,7 +1,8 @@
 //! Questions about a sheet: child lists, states, commands, present classes and buffers, good ones and wrong ones.
 
 use crate::answering::children;
-use crate::behaviour::{command, phase, Phase};
+use crate::behaviour::{phase, Child, Phase};
+use crate::commanding::command_of;
 use crate::lines::Question;
 use crate::loops::pairs;
 use crate::random::Random;
@@ -37,6 +38,11 @@ pub fn children_of(random: &mut Random, class: &Class, length: usize) -> Vec<u8>
     (0..length).flat_map(|_| random.pick(&kinds)).collect()
 }
 
+/// The children of a good list.
+pub fn children_in(list: &[u8]) -> Vec<Child> {
+    list.chunks(2).map(|pair| (pair[0], pair[1])).collect()
+}
+
 /// A state of the class.
 pub fn state(random: &mut Random, class: &Class) -> u8 {
     random.below(class.states.len()) as u8
@@ -57,14 +63,6 @@ fn buffer(random: &mut Random, room: usize) -> Vec<u8> {
         _ => random.below(room + 1),
     };
     random.bytes(length)
-}
-
-/// The bytes that a command sends on good input; nothing where the input is wrong.
-fn room(class: &Class, list: &[u8], state: u8, asked: u8) -> usize {
-    match children(class, list) {
-        Ok(children) if usize::from(state) < class.states.len() => command(class, &children, state, asked).sent.len(),
-        _ => 0,
-    }
 }
 
 /// The bytes that a when phase sends on good input; none where it loops, or where the input is wrong.
@@ -111,8 +109,7 @@ pub fn good_of_kind(random: &mut Random, kind: usize, sheet: Vec<u8>, class: &Cl
         2 => phase_of(random, sheet, class, list, state),
         3 => {
             let command = any_command(random, class, state);
-            let buffer = buffer(random, room(class, &list, state, command));
-            Question::Command { sheet, list, state, command, buffer }
+            command_of(random, sheet, class, list, state, command)
         }
         _ => {
             let most = if class.states.len() > 12 { 5 } else { NAMES_IN_PASSING };
@@ -185,23 +182,6 @@ pub fn bad_input(random: &mut Random, rules: &[u8], sheet: Vec<u8>, class: &Clas
         any_command(random, class, state.min(class.states.len() as u8 - 1))
     };
     let length = random.below(30);
-    Question::Command { sheet, list, state, command, buffer: random.bytes(length) }
-}
-
-/// A command with too short a buffer for what it sends, where it sends something.
-pub fn short_command(random: &mut Random, sheet: Vec<u8>, class: &Class) -> Question {
-    let mut asked = (Vec::new(), 0, 0, 0);
-    for _ in 0..20 {
-        let (list, state) = (list(random, class), state(random, class));
-        let command = any_command(random, class, state);
-        let room = room(class, &list, state, command);
-        asked = (list, state, command, room);
-        if room > 0 {
-            break;
-        }
-    }
-    let (list, state, command, room) = asked;
-    let length = if random.chance(60) { room.saturating_sub(1) } else { random.below(room.max(1)) };
     Question::Command { sheet, list, state, command, buffer: random.bytes(length) }
 }
 

@@ -21,6 +21,16 @@ pub enum Phase {
     Loop { state: u8, moves: usize },
 }
 
+impl Phase {
+    /// What a phase writes: the commands of one that settles, and none of one that loops.
+    pub fn writes(&self) -> &[u8] {
+        match self {
+            Phase::Settled { sent, .. } => sent,
+            Phase::Loop { .. } => &[],
+        }
+    }
+}
+
 /// What follows from one probe: a move, by MOVE_TO or by what a DO runs, or the end of the phase.
 #[derive(Clone, Copy, Debug, PartialEq)]
 pub enum Step {
@@ -98,8 +108,8 @@ pub struct Run {
     pub sent: Vec<u8>,
 }
 
-/// Gives a command to a node in a state.
-pub fn command(class: &Class, children: &[Child], state: u8, command: u8) -> Run {
+/// Runs a state's clause for a command, where there is one.
+fn command(class: &Class, children: &[Child], state: u8, command: u8) -> Run {
     let mut run = Run { handled: false, state, sent: Vec::new() };
     let actions = &class.states[usize::from(state)].actions;
     if let Some(action) = actions.iter().find(|action| action.command == command) {
@@ -107,6 +117,27 @@ pub fn command(class: &Class, children: &[Child], state: u8, command: u8) -> Run
         run.state = run_list(&action.body, children, &mut run.sent).unwrap_or(state);
     }
     run
+}
+
+/// A command request: the command as it was run, and the when phase from the state that it leaves.
+#[derive(Clone, Debug, PartialEq)]
+pub struct Request {
+    pub run: Run,
+    pub phase: Phase,
+}
+
+impl Request {
+    /// What a request writes: what the command itself sends, and directly behind it what the phase writes.
+    pub fn writes(&self) -> Vec<u8> {
+        [&self.run.sent, self.phase.writes()].concat()
+    }
+}
+
+/// Gives a command to a node in a state; handled or ignored, it is followed by the when phase.
+pub fn request(class: &Class, children: &[Child], state: u8, asked: u8) -> Request {
+    let run = command(class, children, state, asked);
+    let phase = phase(class, children, run.state);
+    Request { run, phase }
 }
 
 /// Runs statements in turn, up to the first move_to that is reached, whose state it gives; what they send comes behind what was sent before.

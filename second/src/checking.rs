@@ -1,12 +1,14 @@
 //! Compares the answers of the program `questions` with our own, and counts what was compared.
 
 use crate::answering::answer_line;
+use crate::commanding::request_on;
+use crate::judging::judge;
 use crate::lines::Question;
 use crate::round_trips::{round_trip, text_in};
 use std::collections::BTreeMap;
 
-/// In a run of so many questions every refusal number must be hit this often: 1 to 15 by questions about sheets, 15 by phases alone as well,
-/// 15 to 18 by reading questions; 15, 17 and 19 by writing questions.
+/// In a run of so many questions every refusal number must be hit this often: 1 to 15 by questions about sheets, 15 by phases alone, by
+/// commands alone and by ignored ones as well, 15 to 18 by reading questions; 15, 17 and 19 by writing questions.
 const FLOOR: usize = 50;
 const FULL_RUN: usize = 20_000;
 const LAST_NUMBER: usize = 19;
@@ -26,6 +28,8 @@ struct Tally {
     reading_refusals: [usize; LAST_NUMBER + 1],
     writing_refusals: [usize; LAST_NUMBER + 1],
     short_phases: usize,
+    short_commands: usize,
+    short_ignored: usize,
     differ: usize,
     round_trips: usize,
     failed_trips: usize,
@@ -61,13 +65,19 @@ fn answer_kind(question: &str, answer: &str) -> String {
         ("clause", Some(&"0")) => "probe: clause, move_to".to_string(),
         ("clause", Some(&"1")) => "probe: clause, do".to_string(),
         ("clause", _) => "probe: clause, stay".to_string(),
-        ("handled", Some(&"0")) => "command: handled, nothing sent".to_string(),
-        ("handled", _) => "command: handled, something sent".to_string(),
+        (word @ ("handled" | "ignored"), _) => format!("command: {word}, then {}", words[3]),
         (word @ ("none" | "stay" | "do"), _) if question == "phase" => {
             format!("phase: {word}, {} sent", if words[3] == "0" { "nothing" } else { "something" })
         }
         (word, _) => format!("{question}: {word}"),
     }
+}
+
+/// Is this a command that its state has no clause for?
+fn is_ignored(question: &[u8]) -> bool {
+    let Some(Question::Command { sheet, list, state, command, .. }) = Question::read(question) else { return false };
+    let request = judge(&sheet).ok().and_then(|class| request_on(&class, &list, state, command));
+    request.is_some_and(|request| !request.run.handled)
 }
 
 impl Tally {
@@ -84,6 +94,8 @@ impl Tally {
             };
             refusals[number] += 1;
             self.short_phases += usize::from(kind == "phase" && number == 15);
+            self.short_commands += usize::from(kind == "command" && number == 15);
+            self.short_ignored += usize::from(kind == "command" && number == 15 && is_ignored(question));
         }
         *self.questions.entry(kind).or_default() += 1;
     }
@@ -126,7 +138,9 @@ impl Tally {
         for number in 1..=15 {
             println!("  {number:<34}{:>8}", self.refusals[number]);
         }
-        println!("  15 of phases{:>30}", self.short_phases);
+        for (whose, count) in [("phases", self.short_phases), ("commands", self.short_commands), ("ignored commands", self.short_ignored)] {
+            println!("  15 of {whose:<28}{count:>8}");
+        }
         for number in OF_READING {
             println!("  {number:<2} of reading questions{:>19}", self.reading_refusals[number]);
         }
@@ -138,7 +152,8 @@ impl Tally {
 
     /// The refusal numbers that were hit too seldom.
     fn seldom(&self) -> Vec<usize> {
-        let few = (1..16).filter(|number| self.refusals[*number] < FLOOR || *number == 15 && self.short_phases < FLOOR);
+        let short = [self.short_phases, self.short_commands, self.short_ignored];
+        let few = (1..16).filter(|number| self.refusals[*number] < FLOOR || *number == 15 && short.iter().any(|count| *count < FLOOR));
         let few_of_texts = OF_READING.into_iter().filter(|number| self.reading_refusals[*number] < FLOOR);
         few.chain(few_of_texts).chain(OF_WRITING.into_iter().filter(|number| self.writing_refusals[*number] < FLOOR)).collect()
     }

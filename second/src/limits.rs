@@ -3,7 +3,7 @@
 use crate::moving::{add_action, sends};
 use crate::random::Random;
 use crate::shapes::{atom, class, class_over, commands, deep_guard, names, pattern, statements, true_guard, Shape, LADDER, WHOLE};
-use crate::tree::{Atom, Clause, Class, Guard, Names, Pattern, Quantifier, Referrer, State, Statement};
+use crate::tree::{Action, Atom, Clause, Class, Guard, Names, Pattern, Quantifier, Referrer, State, Statement};
 use crate::writing::{atom_record, bodies_of, name_bytes, pattern_byte, Bodies, ACTIONS, CLASSES, GUARDS, STATEMENTS, STATES, WHENS};
 
 /// A class with one when guard and one if guard whose longest path has this many operators.
@@ -140,6 +140,38 @@ fn pinned_do(random: &mut Random, state: &mut State, children: &[Names], pins: &
     let guard = if asked.is_empty() { true_guard(random, children) } else { all_of(&asked) };
     let number = add_action(random, state, body);
     state.clauses.insert(0, Clause { guard, referrer: Referrer::Do(number) });
+}
+
+/// Statements that send more than 65,535 bytes to 4,095 children or more.
+fn many_sends(random: &mut Random) -> Vec<Statement> {
+    let count = random.between(6, 8);
+    (0..count).map(|_| Statement::Send { command: random.byte(0, 63), pattern: Pattern::Everyone }).collect()
+}
+
+/// A class in which a command in state 0 and the phase behind it both send much, in one of five ways; and the command.
+pub fn long_commands(random: &mut Random, way: u64) -> (Class, u8) {
+    let children = child_classes(random, 3);
+    let known = commands(random, 3);
+    let (own, other, unknown) = (known[0], known[1], known[2]);
+    let (mut run, mut done) = (many_sends(random), many_sends(random));
+    let (here, there, asked) = match way {
+        0 => (Referrer::Do(0), Referrer::Stay, own), // the phase runs the command's clause again
+        1 => (Referrer::Do(1), Referrer::Stay, own), // it runs another one of the state
+        2 => {
+            run.push(Statement::MoveTo(1));
+            (Referrer::Stay, Referrer::Do(0), own) // it runs one of the state that the command leaves
+        }
+        3 => {
+            done.push(Statement::MoveTo(1));
+            (Referrer::Do(1), Referrer::MoveTo(0), own) // it loops, and sends on the ring
+        }
+        _ => (Referrer::Do(1), Referrer::Stay, unknown), // the command is ignored
+    };
+    let mut clauses = |referrer| vec![Clause { guard: true_guard(random, &children), referrer }];
+    let action = |command, body: &[Statement]| Action { command, body: body.to_vec() };
+    let first = State { clauses: clauses(here), actions: vec![action(own, &run), action(other, &done)] };
+    let second = State { clauses: clauses(there), actions: vec![action(own, &done)] };
+    (Class { children, states: vec![first, second] }, asked)
 }
 
 /// Random guard records of which most begin a guard; operators and atoms are mixed, so guards overlap.

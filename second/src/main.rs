@@ -5,6 +5,9 @@ mod asking;
 mod behaviour;
 mod chart;
 mod checking;
+#[cfg(test)]
+mod command_tests;
+mod commanding;
 mod damage;
 mod drafts;
 mod examples;
@@ -29,6 +32,7 @@ mod round_trips;
 mod shapes;
 mod sketches;
 mod tallying;
+mod tallying_commands;
 mod tallying_phases;
 mod tallying_writes;
 #[cfg(test)]

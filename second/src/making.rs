@@ -1,15 +1,16 @@
 //! The mix of random questions.
 
-use crate::asking::{absent_class, bad_input, children_of, everyone, good, good_of_kind, list, phase_of, room_of_phase, short_command, short_phase};
-use crate::asking::{state, NAMES_IN_PASSING};
-use crate::behaviour::{command, phase, Child, Phase};
+use crate::asking::{absent_class, bad_input, children_in, children_of, everyone, good, good_of_kind, list, phase_of, room_of_phase};
+use crate::asking::{short_phase, state, NAMES_IN_PASSING};
+use crate::behaviour::{phase, Child, Phase};
+use crate::commanding::{request_on, short_command, telling_command};
 use crate::damage::{damage_contents, damage_length, damage_records, shift_counts};
 use crate::judging::judge;
-use crate::limits::{guards_of_depth, ifs_of_depth, large, many_names, pinned, shared};
+use crate::limits::{guards_of_depth, ifs_of_depth, large, long_commands, many_names, pinned, shared};
 use crate::lines::{Question, FORMER_LONGEST_LINE, LONGEST_LINE};
 use crate::making_texts;
 use crate::making_writes;
-use crate::moving::{by_do, moving_class, Manner, ALL, DEEP, MIXED};
+use crate::moving::{by_do, commanded_class, moving_class, Manner, ALL, DEEP, MIXED, SENDING};
 use crate::random::Random;
 use crate::shapes::{class, Shape, Style, BUSY, CROWD, LADDER, RING, ROUND, SMALL, TALL, WHOLE};
 use crate::tree::{Class, Names};
@@ -53,7 +54,8 @@ pub fn make_line(seed: u64, index: u64) -> Vec<u8> {
         return making_texts::mixed_line(seed, index);
     }
     let question = match random.below(200) {
-        0..=69 => accepted(random),
+        0..=15 => commanded(random),
+        16..=69 => accepted(random),
         70..=75 => overlapping(random),
         76..=80 => near_limit(random),
         81..=123 => damaged(random),
@@ -110,6 +112,29 @@ fn moving(random: &mut Random) -> Question {
     }
 }
 
+/// A command in a class whose states have commands that send and move; now and then in a large sheet.
+fn commanded(random: &mut Random) -> Question {
+    if random.chance(2) {
+        return large_command(random);
+    }
+    let classes: Vec<Class> = (0..4).map(|_| {
+        let shape = random.pick(&[SMALL, WHOLE, WHOLE, BUSY, LADDER, LADDER, RING, RING, RING, CROWD]);
+        let manner = random.pick(&[ALL, SENDING, SENDING, MIXED, DEEP]);
+        let shape = Shape { states: (shape.states.0, shape.states.1.min(7)), always: random.pick(&[0, 40, 80]), ..shape };
+        commanded_class(random, &shape, &manner)
+    }).collect();
+    if random.chance(30) { short_command(random, &classes) } else { telling_command(random, &classes) }
+}
+
+/// A command in a large sheet.
+fn large_command(random: &mut Random) -> Question {
+    let sheet = large(random).sheet();
+    match judge(&sheet) {
+        Ok(class) => good_of_kind(random, 3, sheet, &class),
+        Err(_) => Question::Judge { sheet },
+    }
+}
+
 /// A phase about a large sheet.
 fn large_phase(random: &mut Random) -> Question {
     let sheet = large(random).sheet();
@@ -121,8 +146,7 @@ fn large_phase(random: &mut Random) -> Question {
 
 /// How much of a phase there is to be told; a loop counts as two moves.
 fn telling(class: &Class, list: &[u8], state: u8) -> (usize, usize) {
-    let children: Vec<Child> = list.chunks(2).map(|pair| (pair[0], pair[1])).collect();
-    match phase(class, &children, state) {
+    match phase(class, &children_in(list), state) {
         Phase::Settled { moves, sent, .. } => (moves, sent.len()),
         Phase::Loop { .. } => (2, 0),
     }
@@ -246,7 +270,7 @@ fn wrongly_asked(random: &mut Random) -> Question {
         7 | 8 => too_many_names(random),
         9 => everyone(random, sheet, &class, true),
         10 | 11 => short_phase(random, sheet, &class),
-        _ => short_command(random, sheet, &class),
+        _ => short_command(random, &[class]),
     }
 }
 
@@ -322,7 +346,10 @@ fn heavy(random: &mut Random, turn: u64) -> Question {
         23 => brimful(random, FORMER_LONGEST_LINE + 1),
         24 => brimful_phase(random, LONGEST_LINE),
         25 => brimful_phase(random, LONGEST_LINE + 1),
-        26..=33 => long_phase(random),
+        26..=29 => long_phase(random),
+        30..=34 => long_command(random, turn % 5),
+        35 => brimful_command(random, LONGEST_LINE),
+        36 => brimful_command(random, LONGEST_LINE + 1),
         _ => long_list(random),
     }
 }
@@ -380,7 +407,10 @@ fn long_list(random: &mut Random) -> Question {
     let state = random.below(class.states.len()) as u8;
     match random.below(5) {
         0 => long_phase_of(random, sheet, &class, list, state),
-        _ => long_command(random, sheet, &class, list, state),
+        _ => {
+            let command = class.states[usize::from(state)].actions[0].command;
+            long_command_of(random, sheet, &class, list, state, command)
+        }
     }
 }
 
@@ -412,13 +442,35 @@ fn long_phase_of(random: &mut Random, sheet: Vec<u8>, class: &Class, list: Vec<u
     Question::Phase { sheet, list, state, buffer: random.bytes(length.min(MOST_LENT)) }
 }
 
-/// A command to many children, with just enough room for it, or now and then a byte less.
-fn long_command(random: &mut Random, sheet: Vec<u8>, class: &Class, list: Vec<u8>, state: u8) -> Question {
-    let children: Vec<Child> = list.chunks(2).map(|pair| (pair[0], pair[1])).collect();
-    let asked = class.states[usize::from(state)].actions[0].command;
-    let room = command(class, &children, state, asked).sent.len();
-    let length = if random.chance(20) { room.saturating_sub(1) } else { room };
-    Question::Command { sheet, list, state, command: asked, buffer: random.bytes(length) }
+/// A command to many children, of which it or the phase behind it sends to each many times.
+fn long_command(random: &mut Random, turn: u64) -> Question {
+    let (class, command) = long_commands(random, turn);
+    let length = random.pick(&[4096, 4096, 4095]);
+    let list = children_of(random, &class, length);
+    let sheet = bodies_of(&class, true).sheet();
+    long_command_of(random, sheet, &class, list, 0, command)
+}
+
+/// A command to many children, with just enough room for all that is written, now and then a byte less, or what 16 bits would make of it.
+fn long_command_of(random: &mut Random, sheet: Vec<u8>, class: &Class, list: Vec<u8>, state: u8, command: u8) -> Question {
+    let room = request_on(class, &list, state, command).map_or(0, |request| request.writes().len());
+    let length = match random.below(5) {
+        0 => room.saturating_sub(1),
+        1 => room % 65_536,
+        _ => room,
+    };
+    Question::Command { sheet, list, state, command, buffer: random.bytes(length.min(MOST_LENT)) }
+}
+
+/// A command on a line of this length; two digits for the command make it odd.
+fn brimful_command(random: &mut Random, length: usize) -> Question {
+    let class = commanded_class(random, &Shape { states: (2, 6), ..LADDER }, &ALL);
+    let sheet = bodies_of(&class, true).sheet();
+    let list = children_of(random, &class, 9);
+    let command = if length % 2 == 0 { 1 } else { 10 };
+    let bare = Question::Command { sheet: sheet.clone(), list: list.clone(), state: 0, command, buffer: vec![0] }.line().len() - 2;
+    let buffer = random.bytes((length - bare) / 2);
+    Question::Command { sheet, list, state: 0, command, buffer }
 }
 
 /// A line that is no question, or that is a different one by accident; or a phase without a buffer, as it once was asked.

@@ -17,9 +17,10 @@ pub struct Manner {
     pub sends: usize,
 }
 
-/// Nothing but DOs, or a mix; few ifs or many.
+/// Nothing but DOs, or a mix; few ifs or many; DOs that send much on their way.
 pub const ALL: Manner = Manner { percent: 100, ifs: 1, sure: 50, sends: 2 };
 pub const MIXED: Manner = Manner { percent: 50, ifs: 2, sure: 50, sends: 2 };
+pub const SENDING: Manner = Manner { percent: 90, ifs: 1, sure: 80, sends: 3 };
 pub const DEEP: Manner = Manner { percent: 80, ifs: 8, sure: 80, sends: 1 };
 
 /// What an action clause is made for.
@@ -146,5 +147,21 @@ pub fn moving_class(random: &mut Random, shape: &Shape, manner: &Manner) -> Clas
     let mut class = class(random, shape);
     by_do(random, shape.style, manner, &mut class);
     close(random, manner, &mut class);
+    class
+}
+
+/// A class of a shape whose moves are made in this manner, with commands in every state that send and move, to the own state too.
+pub fn commanded_class(random: &mut Random, shape: &Shape, manner: &Manner) -> Class {
+    let mut class = moving_class(random, shape, manner);
+    let states: Vec<u8> = (0..class.states.len() as u8).collect();
+    for here in 0..class.states.len() {
+        for _ in 0..random.between(1, 2) {
+            let target = if random.chance(20) { here as u8 } else { random.pick(&states) };
+            let way = Way { children: &class.children, target, astray: states.clone(), manner };
+            let ifs = random.below(manner.ifs + 1);
+            let body = if random.chance(70) { lead(random, &way, ifs) } else { sends(random, &class.children, manner.sends + 1) };
+            add_action(random, &mut class.states[here], body);
+        }
+    }
     class
 }

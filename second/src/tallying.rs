@@ -4,6 +4,7 @@ use crate::examples::examples;
 use crate::lines::{Question, FORMER_LONGEST_LINE, LONGEST_LINE};
 use crate::lists::{CLASS_RECORD, NAME_RECORD};
 use crate::reading::{counts_of_text, deepest_if, operators_on_a_path, Lent};
+use crate::tallying_commands::of_command;
 use crate::tallying_phases::{of_loop, of_phase};
 use crate::tallying_writes::of_writing;
 use crate::text::{rule_16, Guard, Kin, Name, Referrer, State, Statement, Text};
@@ -327,6 +328,7 @@ fn of_line(line: &[u8]) -> Vec<String> {
         Some(Question::Read(lent)) => labels.extend(of_reading(&lent)),
         Some(Question::Write(named)) => labels.extend(of_writing(&named)),
         Some(Question::Phase { sheet, list, state, buffer }) => labels.extend(of_phase(&sheet, &list, state, &buffer)),
+        Some(Question::Command { sheet, list, state, command, buffer }) => labels.extend(of_command(&sheet, &list, state, command, &buffer)),
         Some(Question::Loop { sheet, present, buffer }) => labels.extend(of_loop(&sheet, present, &buffer)),
         None => labels.push(format!("no question, {kind}")),
         _ => {}

@@ -1,20 +1,21 @@
 //! Counts what phases and loop questions ask: how their moves are made, what is sent, and how much room there is.
 
 use crate::answering::{children, MOST_NAMES};
-use crate::behaviour::{holds, phase, probe, step, Child, Ending, Phase};
+use crate::behaviour::{holds, phase, probe, step, Child, Phase};
+use crate::commanding::ending;
 use crate::judging::judge;
 use crate::loops::{ask, pairs, Answer};
 use crate::tree::{Class, Referrer, State, Statement};
 
 /// A move_to that a DO reaches: its state, how many ifs are round it, and whether a statement stands behind it.
-struct Reached {
-    target: u8,
+pub struct Reached {
+    pub target: u8,
     ifs: usize,
     behind: bool,
 }
 
 /// The move_to that statements reach.
-fn reached(list: &[Statement], children: &[Child]) -> Option<Reached> {
+pub fn reached(list: &[Statement], children: &[Child]) -> Option<Reached> {
     list.iter().enumerate().find_map(|(at, statement)| {
         let more = at + 1 < list.len();
         match statement {
@@ -106,7 +107,7 @@ fn of_walk(class: &Class, walk: &Walk) -> Vec<String> {
 }
 
 /// How much room a buffer has for what is sent.
-fn room(buffer: usize, needed: usize) -> &'static str {
+pub fn room(buffer: usize, needed: usize) -> &'static str {
     match buffer {
         _ if buffer == needed => "just enough room",
         0 => "no room",
@@ -136,13 +137,10 @@ pub fn of_phase(sheet: &[u8], list: &[u8], state: u8, buffer: &[u8]) -> Vec<Stri
     }
     let walk = walk(&class, &children, state);
     let mut labels = of_walk(&class, &walk);
-    match phase(&class, &children, state) {
-        Phase::Settled { ending, sent, .. } => {
-            let word = match ending {
-                Ending::NoClause => "none",
-                Ending::Stay => "stay",
-                Ending::Do(_) => "do",
-            };
+    let phase = phase(&class, &children, state);
+    match &phase {
+        Phase::Settled { sent, .. } => {
+            let word = ending(&phase);
             labels.push(format!("phase, {word}: {}", makers(&walk.by_do)));
             if !sent.is_empty() {
                 labels.push(format!("phase, something sent: {}", room(buffer.len(), sent.len())));

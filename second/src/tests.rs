@@ -1,4 +1,5 @@
-//! The worked cases of the paper, phases and loops with DOs that were worked out by hand, and trees that come back from their sheets.
+//! The paper's worked cases, those of commands apart, phases and loops with DOs that were worked out by hand, and trees that come back from
+//! their sheets.
 
 use crate::answering::answer_line;
 use crate::asking::list;
@@ -49,7 +50,7 @@ pub fn c_with(changes: &[(usize, u8)]) -> String {
 }
 
 /// Asks a line and compares the answer.
-fn case(question: String, answer: &str) {
+pub fn case(question: String, answer: &str) {
     assert_eq!(answer_line(question.as_bytes()), answer, "{question}");
 }
 
@@ -65,16 +66,6 @@ fn loops_and_phases() {
     case(format!("phase {A} 0001 1 aabb"), "none 0 1 0 - aabb");
     case(format!("phase {A} 00000001 0 -"), "loop 0 2 0 - -");
     case(format!("phase {A} 00000001 0 aabb"), "loop 0 2 0 - aabb");
-}
-
-/// Cases 6 and 7: commands.
-#[test]
-fn commands() {
-    let c = c_with(&[]);
-    case(format!("command {c} 0001 0 9 aaaaaabb"), "handled 1 3 000004bb");
-    case(format!("command {c} 0000 0 9 aaaaaaaaaaaa"), "handled 0 6 000004000005");
-    case(format!("command {c} 0000 0 9 aaaaaaaaaa"), "refused 15 aaaaaaaaaa");
-    case(format!("command {c} 0001 0 7 -"), "ignored 0 0 -");
 }
 
 /// Cases 8 to 10: refusals.
@@ -153,7 +144,7 @@ fn sheet_c_with_a_do() {
 }
 
 /// The sheet of some states over the child names P, Q, R, the commands c0 to c9 and the classes K and L, which both have all names.
-fn sheet_of(states: &str) -> String {
+pub fn sheet_of(states: &str) -> String {
     let mut text = format!("class: $FWPART_$TOP$X {states}");
     for (word, guard) in [("TRUE", "$ALL$FwCHILDREN in_state {P,Q,R}"), ("SOME_", "$ANY$K in_state "), ("NO_", "$ALL$K not_in_state ")] {
         text = text.replace(word, guard);
@@ -286,7 +277,7 @@ fn behind_the_move() {
     case(format!("loop {deep} 0 -"), "free 1 -");
 }
 
-/// 2.12: nothing that was sent changes a child; two clauses may run one action; 2.10: the probe and the command are as they were.
+/// 2.12: nothing that was sent changes a child; two clauses may run one action; 2.10: the probe is as it was.
 #[test]
 fn children_stay_as_they_are() {
     let walk = sheet_of("state: A when SOME_P do c1 when SOME_Q do c1 action: c0 action: c1 do c1 $ALL$K if SOME_P then move_to B endif
@@ -296,7 +287,7 @@ fn children_stay_as_they_are() {
     case(format!("phase {walk} 00000001 0 -"), "loop 0 2 0 - -");
     case(format!("probe {walk} 0000 0"), "clause 0 1 1");
     case(format!("probe {walk} 0001 0"), "clause 1 1 1");
-    case(format!("command {walk} 00000001 0 1 aaaaaaaaaaaa"), "handled 1 6 000001010001");
+    case(format!("command {walk} 0000 0 1 aaaaaaaaaaaa"), "handled 1 3 stay 1 0 0 - 000001aaaaaa");
 }
 
 /// What the phases from every state over every list of one child per name come to: the smallest configuration in which one loops, or the most moves.
