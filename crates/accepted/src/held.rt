@@ -21,7 +21,7 @@ pub const ACTIONS: usize = 4;
 pub const STATEMENTS: usize = 5;
 
 // An accepted sheet, and where each of its bodies starts.
-#[derive(Drop)]
+#[derive(Clone, Copy)]
 pub struct Sheet<'a> {
     pub bytes: &'a [u8],
     pub places: Places,

@@ -13,7 +13,7 @@ use records::words::in_fours;
 use sheet::judging::Places;
 
 // Clauses that stand together: the first of them, and how many there are.
-#[derive(Drop)]
+#[derive(Clone, Copy)]
 pub struct Run {
     pub first: usize,
     pub count: usize,

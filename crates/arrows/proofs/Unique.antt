@@ -46,7 +46,7 @@ module _ (s : ℕ) (table : List ℕ) (counted : ℕ) where
   none_longer n m L i q il ql t = go (lt_or_le n m)
     where
       go : (n < m) ⊎ (m ≤ n) → m ≤ n
-      go (inl u) = absurd (true_not_false (can_fewer s table counted (suc n) m q i u t) (L.None_more i q il ql))
+      go (inl u) = absurd (true_not_false (can_fewer s table counted (suc n) m q i u t) (L.none_more i q il ql))
       go (inr u) = u
 
   not_longer : (n m : ℕ) → LongestIs s table counted n → LongestIs s table counted m → m ≤ n

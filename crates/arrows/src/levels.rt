@@ -3,7 +3,7 @@ ghost use Rattle.std.specs.Prelude.{◌≡◌, ◌<◌, length};
 ghost use Rattle.arrows.specs.Levels.{LevelsLent, Onward, Rounds, LevelsAre};
 
 // What the lanes of a block do: some of them move for ever, or none makes more than so many moves and one makes so many.
-#[derive(Drop)]
+#[derive(Clone, Copy)]
 pub enum Moves {
     Forever(u64),
     Longest(usize),

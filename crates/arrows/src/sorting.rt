@@ -8,7 +8,7 @@ use sweeps::sweep_list;
 // The clauses of a class: where the guard of each when clause stands and which word of the table it aims at (1,280 where it aims at none), the
 // first when clause and the first action clause of each state, behind the last state their number, and where the statements of each action
 // clause start.
-#[derive(Drop)]
+#[derive(Clone, Copy)]
 pub struct Clauses {
     pub places: [usize; 256],
     pub aims: [usize; 256],

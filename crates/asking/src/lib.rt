@@ -1,5 +1,6 @@
 // From a line to its answer: the verb and its fields are read, the question is put, and the answer's line is written. Nothing is asked of
 // a caller beforehand. What the lines are is in specs/Asking.antt.
+#![tactic(auto)]
 ghost use Rattle.std.specs.Prelude.{◌≡◌};
 ghost use Rattle.bargewicker.specs.Questions.{judge, phase_from, command_in, loop_with};
 ghost use Rattle.texts.specs.Texts.{Appended};
@@ -13,7 +14,7 @@ use strings::blank;
 use texts::reading::{Number, count, decode, first_field, other_fields, read_number};
 
 // The questions of a child list and a state.
-#[derive(Drop)]
+#[derive(Clone, Copy)]
 pub enum Asked {
     Probe,
     Phase,
@@ -21,14 +22,14 @@ pub enum Asked {
 }
 
 // Those of them that are lent a buffer, for what is sent.
-#[derive(Drop)]
+#[derive(Clone, Copy)]
 pub enum Sending {
     Phase,
     Command(u8),
 }
 
 // The questions.
-#[derive(Drop)]
+#[derive(Clone, Copy)]
 pub enum Verb {
     Judge,
     Loop,

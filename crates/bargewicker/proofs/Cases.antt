@@ -13,7 +13,7 @@ worked = refl
 
 -- what a map leaves as it is, it leaves at each entry
 fixed {ℓ} : {A : Type ℓ} (f : A → A) (xs : List A) → map f xs ≡ xs → (x : A) → Memᴰ x xs → f x ≡ x
-fixed f [] e x m = absurd (Memᴰ.not_nil m)
+fixed f [] e x m = absurd (Memᴰ.not-nil m)
 fixed f (y ∷ ys) e x m = go (Memᴰ.cases_cons m) (fixed f ys (tail-eq_of_cons-eq e) x)
   where
     go : (x ≡ y) ⊎ Memᴰ x ys → (Memᴰ x ys → f x ≡ x) → f x ≡ x

@@ -1,6 +1,7 @@
 // The face: the seven questions on bytes and numbers. Each gets an answer for any input; nothing is asked of the caller beforehand, and
 // a refusal writes no byte into a lent buffer. What each answer means is in specs/: Questions.antt, Numbers.antt and Promises.antt; of a
 // class text in the specs/ of readings.
+#![tactic(auto)]
 ghost use Rattle.std.specs.Prelude.{◌≡◌, []};
 ghost use Rattle.sheet.specs.Verdict.{Stands};
 ghost use Rattle.sheet.specs.Reading.{class_of};
@@ -122,7 +123,7 @@ pub fn write_class(
 // What follows is asked of an accepted sheet: refusals 10 to 15 in their order, then the answer.
 
 // Whether the child list and the asked state can be taken.
-#[derive(Drop)]
+#[derive(Clone, Copy)]
 enum Placing {
     Fits,
     Refused(Refusal),

@@ -16,7 +16,7 @@ use truths::filling::fill_words;
 use truths::plans::{Plan, plan_guards};
 
 // The smallest configuration with a loop, or the largest number of moves.
-#[derive(Drop)]
+#[derive(Clone, Copy)]
 pub enum Outcome {
     Loop(u32),
     Free(usize),

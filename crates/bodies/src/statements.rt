@@ -13,7 +13,7 @@ use records::kinds::{Pattern, own_state_at, pattern_at};
 use records::words::{byte_at, narrow_at, u16_at, u32_at};
 
 // An if: the place of its guard, and how many records its then-part and its else-part have.
-#[derive(Drop)]
+#[derive(Clone, Copy)]
 pub struct Branch {
     pub guard: u16,
     pub thens: u16,
@@ -21,7 +21,7 @@ pub struct Branch {
 }
 
 // What a statement record is: do with its command and pattern, move_to with its own state, if.
-#[derive(Drop)]
+#[derive(Clone, Copy)]
 pub enum StatementRecord {
     Do(u8, Pattern),
     MoveTo(OwnState),

@@ -10,7 +10,7 @@ pub const LINE: u8 = 1;
 pub const FILE: u8 = 2;
 
 // A field: which it is, and where it starts and ends.
-#[derive(Drop)]
+#[derive(Clone, Copy)]
 pub struct Field {
     pub kind: u8,
     pub start: usize,

@@ -15,7 +15,7 @@ pub const CLASSES: usize = 288;
 
 // The line that is being read: at its beginning, the names, the commands, a class whose name is wanted, or the states of a class: where
 // its name stands, and its set so far.
-#[derive(Drop)]
+#[derive(Clone, Copy)]
 pub enum Line {
     Begins,
     Names,
@@ -25,7 +25,7 @@ pub enum Line {
 }
 
 // How many bytes of each list are used.
-#[derive(Drop)]
+#[derive(Clone, Copy)]
 pub struct Used {
     pub names: usize,
     pub commands: usize,
@@ -33,7 +33,7 @@ pub struct Used {
 }
 
 // What a field comes to: the head goes on in that line, it is over, or something is wrong.
-#[derive(Drop)]
+#[derive(Clone, Copy)]
 pub enum Turn {
     On(Line, Used),
     Over,
@@ -42,7 +42,7 @@ pub enum Turn {
 
 // A head: the lists that it gives, and where the class text starts; or what is wrong, and the word that shows it, by its place. The end of
 // a line or of the file can show it too.
-#[derive(Drop)]
+#[derive(Clone, Copy)]
 pub enum HeadAnswer {
     Read(Used, usize),
     Bad(Fault, usize, usize),

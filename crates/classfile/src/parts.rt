@@ -11,7 +11,7 @@ use model::ChildName;
 use records::sets::has_name;
 
 // What can be wrong with a line of the head.
-#[derive(Drop)]
+#[derive(Clone, Copy)]
 pub enum Fault {
     UnknownLine,
     LineTwice,
@@ -25,14 +25,14 @@ pub enum Fault {
 }
 
 // Whether a word can stand in its list.
-#[derive(Drop)]
+#[derive(Clone, Copy)]
 pub enum Judged {
     Fine,
     Bad(Fault),
 }
 
 // A class's set with one state more.
-#[derive(Drop)]
+#[derive(Clone, Copy)]
 pub enum Grown {
     To(u32),
     Bad(Fault),

@@ -1,5 +1,6 @@
 // The bodies of states and of action clauses: each state says how many clauses it has, each action clause its command and how many statements.
 // They are counted ahead, in the words behind.
+#![tactic(auto)]
 ghost use Rattle.std.specs.Prelude.{◌≡◌, [], ◌∷◌};
 ghost use Rattle.encoding.specs.Records.{fours};
 ghost use Rattle.encoding.specs.Encoding.{state_bytes};
@@ -15,7 +16,7 @@ use sizes::tick;
 use words::next_word;
 
 // What is counted in the words ahead: a state's when clauses, its action clauses, an action clause's statements.
-#[derive(Drop)]
+#[derive(Clone, Copy)]
 pub enum Ahead {
     Whens,
     Actions,

@@ -115,7 +115,7 @@ module _ (c : Class) (s : Sound c) (present : ℕ) where
   -- a block without a loop
   module _ (base n : ℕ) (L : BlockLongest c present base n) where
     at_lane : (k : ℕ) → base ≤ k → k < base + 64 → counts c present k ≡ true → (q : ℕ) → q < states → can (next c (list_of c present k)) (suc n) q ≡ false
-    at_lane k l u t q m = let e : k ≡ base + (k - base) = omega arith in rw e (L.None_more (k - base) q (omega arith) m (rw e at t))
+    at_lane k l u t q m = let e : k ≡ base + (k - base) = omega arith in rw e (L.none_more (k - base) q (omega arith) m (rw e at t))
 
     lane_free : (k : ℕ) → base ≤ k → k < base + 64 → has_loop c present k ≡ false
     unfolding has_loop

@@ -50,7 +50,7 @@ module _ (f : Child → Bool) where
 -- what is chosen is of the list
 pub chosen_mem : (xs : List Child) (k : ℕ) (x : Child) → Memᴰ x (chosen xs k) → Memᴰ x xs
 unfolding chosen
-chosen_mem [] k x m = absurd (mathlib.Core.List.Memᴰ.not_nil m)
+chosen_mem [] k x m = absurd (mathlib.Core.List.Memᴰ.not-nil m)
 chosen_mem (y ∷ ys) k x m = go (eqb (k % 2) 1) m (chosen_mem ys (k / 2) x)
   where
     go : (b : Bool) → Memᴰ x (kept b y (chosen ys (k / 2))) → (Memᴰ x (chosen ys (k / 2)) → Memᴰ x ys) → Memᴰ x (y ∷ ys)

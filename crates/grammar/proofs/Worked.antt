@@ -85,7 +85,7 @@ computed = refl
 
 each_computed : (es : List Example) → map (λ (e : Example). place_of e.text) es ≡ map (λ (e : Example). some e.place) es → (e : Example) → Memᴰ e es
     → place_of e.text ≡ some e.place
-each_computed [] h e m = absurd (Memᴰ.not_nil m)
+each_computed [] h e m = absurd (Memᴰ.not-nil m)
 each_computed (x ∷ xs) h e m = go (Memᴰ.cases_cons m) (each_computed xs (cc) e)
   where
     go : (e ≡ x) ⊎ Memᴰ e xs → (Memᴰ e xs → place_of e.text ≡ some e.place) → place_of e.text ≡ some e.place

@@ -1,4 +1,5 @@
 // The text of a guard, written from its records: the writer calls itself on each operand.
+#![tactic(auto)]
 ghost use Rattle.model.specs.Tree.{atom};
 ghost use Rattle.pen.specs.Writing.{Puts};
 ghost use Rattle.records.specs.GuardRecords.{guard_at, joined, operands};
@@ -13,7 +14,7 @@ use records::kinds::Pattern;
 use spelling::{put_kin, put_set};
 
 // The place behind a guard's text with the record after the guard, or the guard is broken.
-#[derive(Drop)]
+#[derive(Clone, Copy)]
 enum Wrote {
     At(usize, usize),
     Broken,

@@ -1,4 +1,5 @@
 // The names of a text: refusal 17 by the text itself. What each word asks of the next is in specs/, what is shown of it in proofs/.
+#![tactic(auto)]
 ghost use Rattle.std.specs.Prelude.{◌≡◌, false, [], length, ◌≤◌};
 ghost use Rattle.naming.specs.NameLists.{records_in, listed_in};
 ghost use Rattle.lists.specs.Lent.{lent};
@@ -73,7 +74,7 @@ fn own_for(text: &[u8], before: u8, name: &[u8], own: &[usize], held: Holding) -
 }
 
 // The state that the words stand in: whether a do refers to one of its actions, and how many of those are held.
-#[derive(Drop)]
+#[derive(Clone, Copy)]
 struct Scope {
     referring: bool,
     count: usize,

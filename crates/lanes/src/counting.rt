@@ -10,7 +10,7 @@ use model::ChildClass;
 use records::kinds::Pattern;
 
 // The present classes, and of each class the mask of its cells and its lanes in the first block.
-#[derive(Drop)]
+#[derive(Clone, Copy)]
 pub struct Present {
     pub classes: u8,
     pub masks: [u32; 8],

@@ -1,5 +1,6 @@
 // The lent lists: child state names, commands, child classes with their name sets. What they mean is in naming/specs, what the functions
 // promise in specs/, what is shown of them in proofs/.
+#![tactic(auto)]
 ghost use Rattle.std.specs.Prelude.{◌≡◌, ◌≤◌, ◌<◌, ◌/◌, length, get_or, drop};
 ghost use Rattle.grammar.specs.Words.{same};
 ghost use Rattle.naming.specs.NameLists.{padded, records_in};
@@ -9,7 +10,7 @@ use kinds::is_same;
 use records::words::u32_at;
 
 // The number of a name in a list, or that it has none.
-#[derive(Drop)]
+#[derive(Clone, Copy)]
 pub enum Found {
     At(usize),
     Nowhere,

@@ -17,7 +17,7 @@ use phases::{Turn, turn_from};
 use sheet::judging::Places;
 
 // Where each state's next move leads; 255 where it makes none.
-#[derive(Drop)]
+#[derive(Clone, Copy)]
 pub struct Table {
     pub to: [u8; 32],
 }

@@ -1,5 +1,6 @@
 // Refusals 17 and 19 of the class text, on an accepted sheet: no name is missing that is to be written, and there are at most 1,024 guard
 // records to write. One walk over the when clauses, the action clauses and the statements tells both.
+#![tactic(auto)]
 ghost use Rattle.std.specs.Prelude.{◌≡◌, ◌+◌, ◌<◌, ◌≤◌, ◌/◌, length};
 ghost use Rattle.records.specs.GuardRecords.{guard_record};
 ghost use Rattle.sheet.specs.Verdict.{Stands};
@@ -19,7 +20,7 @@ use records::words::record_at;
 use sheet::judging::Places;
 
 // Whether no name is missing, and how many guard records there are.
-#[derive(Drop)]
+#[derive(Clone, Copy)]
 pub struct Tally {
     pub named: bool,
     pub count: usize,

@@ -38,7 +38,7 @@ listed_mem i (suc n) f (suc j) a l e = Memᴰ.tail (listed_mem (suc i) n f j a (
 
 pub mem_listed {ℓ} : {A : Type ℓ} (i n : ℕ) (f : ℕ → A) (x : A) → Memᴰ x (listed i n f) → (a : ℕ) × (i ≤ a) × (a < i + n) × (x ≡ f a)
 unfolding listed
-mem_listed i zero f x m = absurd (Memᴰ.not_nil m)
+mem_listed i zero f x m = absurd (Memᴰ.not-nil m)
 mem_listed i (suc n) f x m = go (Memᴰ.cases_cons m) (mem_listed (suc i) n f x)
   where
     go : (x ≡ f i) ⊎ Memᴰ x (listed (suc i) n f) → (Memᴰ x (listed (suc i) n f) → (a : ℕ) × (suc i ≤ a) × (a < suc i + n) × (x ≡ f a))
@@ -49,7 +49,7 @@ mem_listed i (suc n) f x m = go (Memᴰ.cases_cons m) (mem_listed (suc i) n f x)
 module _ {ℓ} {A : Type ℓ} (f : A → Bool) where
   pub every_elim : (xs : List A) → every f xs ≡ true → (x : A) → Memᴰ x xs → f x ≡ true
   unfolding every
-  every_elim [] h x m = absurd (Memᴰ.not_nil m)
+  every_elim [] h x m = absurd (Memᴰ.not-nil m)
   every_elim (y ∷ ys) h x m = go (Memᴰ.cases_cons m) (every_elim ys (and_right (f y) (every f ys) h) x)
     where
       go : (x ≡ y) ⊎ Memᴰ x ys → (Memᴰ x ys → f x ≡ true) → f x ≡ true
@@ -72,7 +72,7 @@ module _ {ℓ} {A : Type ℓ} (f : A → Bool) where
 
   pub some_in_intro : (xs : List A) (x : A) → Memᴰ x xs → f x ≡ true → some_in f xs ≡ true
   unfolding some_in
-  some_in_intro [] x m t = absurd (Memᴰ.not_nil m)
+  some_in_intro [] x m t = absurd (Memᴰ.not-nil m)
   some_in_intro (y ∷ ys) x m t = go (Memᴰ.cases_cons m) (λ n. some_in_intro ys x n t)
     where
       go : (x ≡ y) ⊎ Memᴰ x ys → (Memᴰ x ys → some_in f ys ≡ true) → (f y || some_in f ys) ≡ true
@@ -81,7 +81,7 @@ module _ {ℓ} {A : Type ℓ} (f : A → Bool) where
 
   pub keep_mem : (xs : List A) (x : A) → Memᴰ x (keep f xs) → Memᴰ x xs × (f x ≡ true)
   unfolding keep
-  keep_mem [] x m = absurd (Memᴰ.not_nil m)
+  keep_mem [] x m = absurd (Memᴰ.not-nil m)
   keep_mem (y ∷ ys) x m = go (f y) refl m (keep_mem ys x)
     where
       go : (b : Bool) → f y ≡ b → Memᴰ x (kept b y (keep f ys)) → (Memᴰ x (keep f ys) → Memᴰ x ys × (f x ≡ true)) → Memᴰ x (y ∷ ys) × (f x ≡ true)
@@ -94,7 +94,7 @@ module _ {ℓ} {A : Type ℓ} (f : A → Bool) where
 
   pub mem_keep : (xs : List A) (x : A) → Memᴰ x xs → f x ≡ true → Memᴰ x (keep f xs)
   unfolding keep
-  mem_keep [] x m t = absurd (Memᴰ.not_nil m)
+  mem_keep [] x m t = absurd (Memᴰ.not-nil m)
   mem_keep (y ∷ ys) x m t = go (f y) refl (Memᴰ.cases_cons m) (λ n. mem_keep ys x n t)
     where
       go : (b : Bool) → f y ≡ b → (x ≡ y) ⊎ Memᴰ x ys → (Memᴰ x ys → Memᴰ x (keep f ys)) → Memᴰ x (kept b y (keep f ys))

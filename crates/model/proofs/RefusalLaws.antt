@@ -40,7 +40,7 @@ same_number x y e = sym (numbered_own x) ∙ ap numbered e ∙ numbered_own y
 
 -- every refusal has a number
 pub numbered_from_1 : (x : Refusal) → 1 ≤ number_of x
-numbered_from_1 x = elim x [ SheetLength ↦ omega arith | Contents ↦ omega arith | EmptyNameSet ↦ omega arith | ClauseCounts ↦ omega arith | GuardLayout ↦ omega arith | GuardReach ↦ omega arith | Target ↦ omega arith | ActionClause ↦ omega arith | Statement ↦ omega arith | ChildList ↦ omega arith | AskedState ↦ omega arith | AskedCommand ↦ omega arith | PresentBit ↦ omega arith | NameCount ↦ omega arith | Room ↦ omega arith | Naming ↦ omega arith | Limit ↦ omega arith | WrittenGuards ↦ omega arith ]
+numbered_from_1 x = elim x as (λ x. 1 ≤ number_of x) [ SheetLength ↦ omega arith | Contents ↦ omega arith | EmptyNameSet ↦ omega arith | ClauseCounts ↦ omega arith | GuardLayout ↦ omega arith | GuardReach ↦ omega arith | Target ↦ omega arith | ActionClause ↦ omega arith | Statement ↦ omega arith | ChildList ↦ omega arith | AskedState ↦ omega arith | AskedCommand ↦ omega arith | PresentBit ↦ omega arith | NameCount ↦ omega arith | Room ↦ omega arith | Naming ↦ omega arith | Limit ↦ omega arith | WrittenGuards ↦ omega arith ]
 
 pub not_zero : (x : Refusal) → number_of x ≡ 0 → ⊥
 not_zero x e = let n = numbered_from_1 x in omega arith

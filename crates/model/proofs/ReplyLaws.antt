@@ -76,7 +76,7 @@ module _ {A B : Type 0} (f : A → B) (values : A → List ℕ) (told_values : B
   told_buffer (refuse n) out = refl
   told_buffer (give a bytes) out = refl
 
-  pub answered_as : (r : Reply A) (out answer after : List ℕ) → Answered values r out answer after → Answered told-values (told_as f r) out answer after
+  pub answered_as : (r : Reply A) (out answer after : List ℕ) → Answered values r out answer after → Answered told_values (told_as f r) out answer after
   answered_as r out answer after h =
       record { numbers_are = h.numbers_are ∙ sym (told_numbers r); buffer_is = h.buffer_is ∙ sym (told_buffer r out) }
 

@@ -1,22 +1,23 @@
 // The model: what a class, a child list, a probe, a when phase and a command mean. Definitions are in specs/, their theory in proofs/.
 // Here stand the three kinds of number that are never taken for one another, the refusals, and the answers to the questions.
+#![tactic(auto)]
 ghost use Rattle.std.specs.Prelude.{◌≡◌};
 ghost use Rattle.model.specs.Refusals.{number_of};
 
 // One of a node's own states, 0 to S - 1.
-#[derive(Drop)]
+#[derive(Clone, Copy)]
 pub struct OwnState(pub u8);
 
 // The name of a state that a child is in, 0 to 31.
-#[derive(Drop)]
+#[derive(Clone, Copy)]
 pub struct ChildName(pub u8);
 
 // One of the sheet's child classes, 0 to K - 1.
-#[derive(Drop)]
+#[derive(Clone, Copy)]
 pub struct ChildClass(pub u8);
 
 // Why an input is refused: a case for each number of the paper's table, in its order. 16, which has a place, is a case of ReadAnswer.
-#[derive(Drop)]
+#[derive(Clone, Copy)]
 pub enum Refusal {
     SheetLength,
     Contents,
@@ -39,7 +40,7 @@ pub enum Refusal {
 }
 
 // A when clause's referrer with its target: an own state, an action clause's number within the state, none.
-#[derive(Drop)]
+#[derive(Clone, Copy)]
 pub enum Referrer {
     MoveTo(OwnState),
     Do(u8),
@@ -47,14 +48,14 @@ pub enum Referrer {
 }
 
 // What a probe finds: no clause, or a clause's number within the state with its referrer and target.
-#[derive(Drop)]
+#[derive(Clone, Copy)]
 pub enum Probed {
     Nothing,
     Found(usize, Referrer),
 }
 
 // By what a phase settles: no clause, STAY, or DO with the command of its action clause, which has run.
-#[derive(Drop)]
+#[derive(Clone, Copy)]
 pub enum Ending {
     ByNone,
     ByStay,
@@ -63,21 +64,21 @@ pub enum Ending {
 
 // A when phase: settled by what, in which state, after how many moves, and how many bytes of commands were written; or loop, the state
 // after S moves, S, and nothing is written.
-#[derive(Drop)]
+#[derive(Clone, Copy)]
 pub enum Phase {
     Settled(Ending, OwnState, usize, usize),
     Loops(OwnState, usize),
 }
 
 // The handling of a command: the state that it leaves, and how many bytes of its own sends were written.
-#[derive(Drop)]
+#[derive(Clone, Copy)]
 pub enum Handling {
     Ignored(OwnState),
     Handled(OwnState, usize),
 }
 
 // What a class does: a loop, with its configuration and own state; or none, and the largest number of moves.
-#[derive(Drop)]
+#[derive(Clone, Copy)]
 pub enum Loops {
     Loop(u32, OwnState),
     Free(usize),
@@ -85,31 +86,31 @@ pub enum Loops {
 
 // The answers to the questions about a sheet: refused, or what is given. A command's has two parts: its handling, and the when phase from the
 // state that it leaves.
-#[derive(Drop)]
+#[derive(Clone, Copy)]
 pub enum JudgeAnswer {
     Refused(Refusal),
     Accepted,
 }
 
-#[derive(Drop)]
+#[derive(Clone, Copy)]
 pub enum ProbeAnswer {
     Refused(Refusal),
     Given(Probed),
 }
 
-#[derive(Drop)]
+#[derive(Clone, Copy)]
 pub enum PhaseAnswer {
     Refused(Refusal),
     Given(Phase),
 }
 
-#[derive(Drop)]
+#[derive(Clone, Copy)]
 pub enum CommandAnswer {
     Refused(Refusal),
     Given(Handling, Phase),
 }
 
-#[derive(Drop)]
+#[derive(Clone, Copy)]
 pub enum LoopAnswer {
     Refused(Refusal),
     Given(Loops),
@@ -117,7 +118,7 @@ pub enum LoopAnswer {
 
 // The answer to a class text: refused; the start of the first word that cannot stand; or read, the length of the sheet and the number of
 // own states.
-#[derive(Drop)]
+#[derive(Clone, Copy)]
 pub enum ReadAnswer {
     Refused(Refusal),
     WrongWord(usize),
@@ -125,7 +126,7 @@ pub enum ReadAnswer {
 }
 
 // The answer to a sheet whose text is asked for: refused, or the number of bytes written.
-#[derive(Drop)]
+#[derive(Clone, Copy)]
 pub enum WriteAnswer {
     Refused(Refusal),
     Written(usize),

@@ -11,7 +11,7 @@ use records::guards::{GuardRecord, Kind, Operator, guard_record};
 use records::kinds::Pattern;
 
 // A guard's truth with the record after it, or it is broken.
-#[derive(Drop)]
+#[derive(Clone, Copy)]
 pub enum Value {
     Holds(bool, usize),
     Broken,

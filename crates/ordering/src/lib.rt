@@ -1,9 +1,10 @@
 // What a word is to the order of guard records.
+#![tactic(auto)]
 ghost use Rattle.std.specs.Prelude.{◌≡◌};
 ghost use Rattle.ordering.specs.Ordering.{mark_of};
 
 // What a word is to a guard: a quantifier; a word at which no guard is open; an operator; a bracket; or nothing.
-#[derive(Drop)]
+#[derive(Clone, Copy)]
 pub enum Mark {
     Any,
     All,
@@ -17,7 +18,7 @@ pub enum Mark {
 }
 
 // What stands behind a quantifier: an atom's kind, pattern and name set, or none, where a do sends to children.
-#[derive(Drop)]
+#[derive(Clone, Copy)]
 pub enum Ahead {
     Atom(u8, u8, u32),
     Nothing,

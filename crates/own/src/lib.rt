@@ -1,5 +1,6 @@
 // Names ahead in a text: those behind the words of one kind, up to the first word of another. The text's own states stand behind state:,
 // up to the end; the actions of a state behind action:, up to the next state:. What is promised is in specs/, what is shown in proofs/.
+#![tactic(auto)]
 ghost use Rattle.std.specs.Prelude.{◌≡◌, ◌<◌, ◌≤◌, length};
 ghost use Rattle.model.specs.Words.{listed};
 ghost use Rattle.lists.specs.Lent.{found_from};
@@ -11,7 +12,7 @@ use lists::Found;
 use words::next_word;
 
 // Where the next name starts and ends, or that there is none.
-#[derive(Drop)]
+#[derive(Clone, Copy)]
 pub enum Named {
     At(usize, usize),
     Nowhere,
@@ -40,7 +41,7 @@ pub fn next_named(text: &[u8], at: usize, kind: u8, stop: u8) -> Named
 }
 
 // How many names a table holds, and the place from which the names go on that it does not hold.
-#[derive(Drop)]
+#[derive(Clone, Copy)]
 pub struct Holding {
     pub count: usize,
     pub rest: usize,

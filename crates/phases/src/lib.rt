@@ -1,6 +1,7 @@
 // The when phase: probe, move or run a DO's clause at once, and probe again, until it settles or S moves have been made. It is walked
 // once to count the bytes of the commands sent and once to write them; where each state led is kept, so that a phase that loops runs no
 // action clause again.
+#![tactic(auto)]
 ghost use Rattle.std.specs.Prelude.{◌≡◌, ◌+◌, ◌<◌};
 ghost use Rattle.records.specs.Bytes.{in_fours};
 ghost use Rattle.bodies.specs.Clauses.{first_action, action_count, action_command};
@@ -18,14 +19,14 @@ use running::{Moved, run_action};
 use sheet::judging::Places;
 
 // One turn: the phase ends, or the node moves.
-#[derive(Drop)]
+#[derive(Clone, Copy)]
 pub enum Turn {
     Stops(Ending),
     Moves(OwnState),
 }
 
 // A turn, and the place in the buffer behind the commands that it sent.
-#[derive(Drop)]
+#[derive(Clone, Copy)]
 pub struct Turned {
     pub turn: Turn,
     pub at: usize,

@@ -11,7 +11,7 @@ use ordering::{Ahead, Mark, mark_of};
 use words::next_word;
 
 // Where the walk stands: how many brackets are open, the first record of the guard that is read, and how many records there are.
-#[derive(Drop)]
+#[derive(Clone, Copy)]
 pub struct Stand {
     pub level: usize,
     pub first: usize,

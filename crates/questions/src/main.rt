@@ -6,6 +6,7 @@
 //
 // Byte strings are lower-case hex, `-` for the empty one; numbers are decimal, 0 to 255; fields are parted by one space. A line that is
 // none of these, or longer than 1,048,576 bytes, is answered `bad line`. A line is answered by `asking`.
+#![tactic(auto)]
 ghost use Rattle.io.specs.Counts.{IsPrefixLen};
 ghost use Rattle.questions.specs.Inputs.{Inside};
 
@@ -15,7 +16,7 @@ use texts::reading::find;
 use texts::writing::{append_byte, append_bytes};
 
 // How far the input is taken: the next byte of the chunk, the chunk's bytes, the bytes of the line so far, which wait for its end; and whether it is over.
-#[derive(Drop)]
+#[derive(Clone, Copy)]
 pub struct Input {
     pub at: usize,
     pub end: usize,

@@ -24,21 +24,21 @@ const ACTION_TWICE: u8 = 12;
 const NO_ACTION: u8 = 13;
 
 // A name that is to blame: what for, and its place; or that none is.
-#[derive(Drop)]
+#[derive(Clone, Copy)]
 pub enum Blame {
     Name(u8, usize, usize),
     Nothing,
 }
 
 // Whether a name can stand.
-#[derive(Drop)]
+#[derive(Clone, Copy)]
 enum Held {
     Fine,
     Wrong(u8),
 }
 
 // The state that the words stand in: how many states are named, the commands of its action clauses, and those of the clauses so far.
-#[derive(Drop)]
+#[derive(Clone, Copy)]
 struct Scope {
     states: usize,
     all: u64,

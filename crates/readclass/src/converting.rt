@@ -17,7 +17,7 @@ use saying::places::in_file;
 const FILE: usize = 1310720;
 
 // A sheet of so many bytes, or why there is none.
-#[derive(Drop)]
+#[derive(Clone, Copy)]
 pub enum Outcome {
     Sheet(usize),
     Refused(Why),

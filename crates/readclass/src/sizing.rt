@@ -22,7 +22,7 @@ const IFS: u8 = 5;
 const OPERATORS: u8 = 6;
 
 // A limit that is passed, and where the word stands that passes it; or that none is.
-#[derive(Drop)]
+#[derive(Clone, Copy)]
 pub enum Passed {
     At(u8, usize),
     Nothing,

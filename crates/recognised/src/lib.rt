@@ -1,4 +1,5 @@
 // The first word of a text that cannot stand.
+#![tactic(auto)]
 ghost use Rattle.std.specs.Prelude.{◌≡◌, length};
 ghost use Rattle.recognised.specs.Watching.{seen_after, begun_at, HadElse, Watched, Noted};
 ghost use Rattle.recognised.specs.Recognised.{Recognised};
@@ -6,7 +7,7 @@ ghost use Rattle.recognised.specs.Recognised.{Recognised};
 use steps::{Go, Open, Want};
 
 // Where the text goes wrong, or that it does not.
-#[derive(Drop)]
+#[derive(Clone, Copy)]
 pub enum Found {
     Wrong(usize),
     Fine,

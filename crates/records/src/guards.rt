@@ -8,7 +8,7 @@ use crate::kinds::{Pattern, pattern_at};
 use crate::words::{byte_at, record_at, u16_at, u32_at};
 
 // The test that an atom makes.
-#[derive(Drop)]
+#[derive(Clone, Copy)]
 pub enum Kind {
     AnyIn,
     AnyNotIn,
@@ -17,7 +17,7 @@ pub enum Kind {
 }
 
 // An operator on guards: and, or, not.
-#[derive(Drop)]
+#[derive(Clone, Copy)]
 pub enum Operator {
     Both,
     Either,
@@ -25,7 +25,7 @@ pub enum Operator {
 }
 
 // What a guard record is.
-#[derive(Drop)]
+#[derive(Clone, Copy)]
 pub enum GuardRecord {
     Atom(Kind, Pattern, u32),
     Operator(Operator),
@@ -33,7 +33,7 @@ pub enum GuardRecord {
 }
 
 // Where a guard that begins at a record ends: the record after it; or it is broken.
-#[derive(Drop)]
+#[derive(Clone, Copy)]
 pub enum End {
     At(usize),
     Broken,

@@ -9,7 +9,7 @@ use crate::words::{byte_at, narrow_at};
 use model::{ChildClass, ChildName, OwnState};
 
 // The children that a guard or a do speaks of: all of them, or those of one class.
-#[derive(Drop)]
+#[derive(Clone, Copy)]
 pub enum Pattern {
     Everyone,
     OfClass(ChildClass),

@@ -1,5 +1,6 @@
 // Statements run on the children of a list: the commands that they send are written into a lent buffer from a place on, as far as it
 // reaches, and the place behind them is answered. Running an action clause is this one function, for a command and for a DO.
+#![tactic(auto)]
 ghost use Rattle.std.specs.Prelude.{◌≡◌, [], ◌∷◌, ◌/◌, ◌%◌, ◌<◌, ◌≤◌, length, set};
 ghost use Rattle.std.proofs.lemmas.List.Edits.{sets};
 ghost use Rattle.model.specs.Running.{sent_to};
@@ -25,14 +26,14 @@ use records::kinds::{Pattern, class_at};
 use sheet::judging::Places;
 
 // Whether a move_to ended the clause, and where it leads.
-#[derive(Drop)]
+#[derive(Clone, Copy)]
 pub enum Moved {
     Not,
     To(OwnState),
 }
 
 // What running statements did: the place in the buffer behind the bytes sent, and the move.
-#[derive(Drop)]
+#[derive(Clone, Copy)]
 pub struct Ran {
     pub at: usize,
     pub moved: Moved,

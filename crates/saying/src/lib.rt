@@ -1,5 +1,6 @@
 // Says why a file is refused: one line on standard error. What a program can say of its files stands in lines of its own; what is said of
 // the head of a class file is the same in all of them.
+#![tactic(auto)]
 pub mod heads;
 pub mod places;
 
@@ -21,7 +22,7 @@ pub const HEAD: u8 = 64;
 
 // Why a file is refused: the number of what is said of it, and the word that shows it, by its place in the file; where no word does, it
 // ends where it starts, or before. The numbers stand where the message has a #.
-#[derive(Drop)]
+#[derive(Clone, Copy)]
 pub struct Why {
     pub message: u8,
     pub said: u8,

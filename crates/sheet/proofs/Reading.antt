@@ -58,7 +58,7 @@ module _ (s : Bodies) where
             let (a, u, v, e) = mem_listed first (count_at s.states offset q) read x (subst (λ (y : List A). Memᴰ x y) (ap clauses (state_of_in q l) ∙ reads q) m) in
             let z : a ≡ first + (a - first) = omega arith in
             (a - first, l, (omega arith), (e ∙ ap read z))
-        go (inr l) = absurd (Memᴰ.not_nil (subst (λ (y : List A). Memᴰ x y) (ap clauses (state_of_past q l) ∙ none) m))
+        go (inr l) = absurd (Memᴰ.not-nil (subst (λ (y : List A). Memᴰ x y) (ap clauses (state_of_past q l) ∙ none) m))
 
     -- a state has as many of them as its record says
     clauses_in : (q : ℕ) → q < in_fours s.states → length (clauses (state_of (class_in s) q)) ≡ count_at s.states offset q

@@ -11,7 +11,7 @@ use model::Refusal;
 use records::words::u16_at;
 
 // Where each of the six bodies starts; each ends where the next starts, and the last ends with the sheet.
-#[derive(Drop)]
+#[derive(Clone, Copy)]
 pub struct Places {
     pub classes: usize,
     pub states: usize,
@@ -22,7 +22,7 @@ pub struct Places {
 }
 
 // What the judge answers.
-#[derive(Drop)]
+#[derive(Clone, Copy)]
 pub enum Verdict {
     Accepted(Places),
     Refused(Refusal),

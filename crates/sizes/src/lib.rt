@@ -1,4 +1,5 @@
 // How large the sheet of a text is, counted by its words: what the limits are asked of, before anything is written.
+#![tactic(auto)]
 ghost use Rattle.std.specs.Prelude.{◌≡◌, ◌<◌, max};
 ghost use Rattle.sizes.specs.Counting.{tick, untick, of_guard, of_statement, acting_after, open_after, raised, counted, Below};
 ghost use Rattle.sizes.specs.Sized.{Sized};
@@ -7,7 +8,7 @@ use kinds::{ACTION, AND, DO, END, ENDIF, IF, MOVE_TO, NOT_IN, STATE, WHEN};
 use words::next_word;
 
 // The numbers of states, when clauses, guard records, action clauses and statements, and how deep the deepest if is.
-#[derive(Drop)]
+#[derive(Clone, Copy)]
 pub struct Sizes {
     pub states: usize,
     pub whens: usize,

@@ -1,4 +1,5 @@
 // The body of statements: one record for each do, move_to and if behind an action:, by the words ahead of it.
+#![tactic(auto)]
 ghost use Rattle.std.specs.Prelude.{◌≡◌, [], ◌∷◌, ◌/◌, ◌<◌, ◌≤◌, drop};
 ghost use Rattle.words.specs.Scanning.{tokens_from};
 ghost use Rattle.own.specs.Held.{Filled};
@@ -51,7 +52,7 @@ fn depth_after(d: usize, kind: u8) -> usize
 }
 
 // A part that is ahead: its statements, the word that ends it, and the place behind that.
-#[derive(Drop)]
+#[derive(Clone, Copy)]
 struct PartEnd {
     size: usize,
     kind: u8,

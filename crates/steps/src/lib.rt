@@ -1,4 +1,5 @@
 // The machine that reads a text word by word, by numbers: what is wanted next, and what is open.
+#![tactic(auto)]
 ghost use Rattle.std.specs.Prelude.{◌<◌, ◌≡◌, eqb};
 ghost use Rattle.steps.specs.declared.Go.TheVariants.{Stop};
 ghost use Rattle.steps.specs.Turns.{action_turns, when_turns, operand_turns, closing_turns, operator_turns, ending_turns, statement_turns, turns};
@@ -11,7 +12,7 @@ use kinds::{
 };
 
 // What was read last, and so what is wanted next.
-#[derive(Drop)]
+#[derive(Clone, Copy)]
 pub enum Want {
     Start,
     ClassRead,
@@ -40,7 +41,7 @@ pub enum Want {
 }
 
 // What is open: how many brackets, whether the guard is an if's, how many ifs.
-#[derive(Drop)]
+#[derive(Clone, Copy)]
 pub struct Open {
     pub brackets: usize,
     pub nested: bool,
@@ -48,7 +49,7 @@ pub struct Open {
 }
 
 // Where a word leads; nowhere, if it cannot stand.
-#[derive(Drop)]
+#[derive(Clone, Copy)]
 pub enum Go {
     To(Want),
     Stop,

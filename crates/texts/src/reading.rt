@@ -7,14 +7,14 @@ ghost use Rattle.texts.specs.Fields.{Finds, occurs, before, behind, digit_value,
 use crate::writing::append_byte;
 
 // A number that a field holds.
-#[derive(Drop)]
+#[derive(Clone, Copy)]
 pub enum Number {
     Is(u8),
     Bad,
 }
 
 // What decoding comes to: whether the field is right, and how many bytes it stands for.
-#[derive(Drop)]
+#[derive(Clone, Copy)]
 pub struct Decoded {
     pub right: bool,
     pub length: usize,

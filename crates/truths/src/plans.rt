@@ -22,7 +22,7 @@ pub const EITHER: u8 = 3;
 pub const OPPOSITE: u8 = 4;
 
 // Of each record: how its word is made, how many records its guard has, the mask of an atom and its word in the first block.
-#[derive(Drop)]
+#[derive(Clone, Copy)]
 pub struct Plan {
     pub kinds: [u8; 1024],
     pub sizes: [u16; 1024],

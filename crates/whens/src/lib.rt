@@ -1,4 +1,5 @@
 // The body of when clauses: one record for each word `when`, by the words ahead of it.
+#![tactic(auto)]
 ghost use Rattle.std.specs.Prelude.{◌≡◌, [], ◌∷◌, ◌%◌, ◌<◌};
 ghost use Rattle.own.specs.Ahead.{names_from};
 ghost use Rattle.own.specs.Held.{Filled};
@@ -14,14 +15,14 @@ use pen::put_four;
 use words::next_word;
 
 // Where a name starts and ends.
-#[derive(Drop)]
+#[derive(Clone, Copy)]
 pub struct Stretch {
     pub start: usize,
     pub end: usize,
 }
 
 // What a when clause says to do: the name of an own state or of a command.
-#[derive(Drop)]
+#[derive(Clone, Copy)]
 enum Refer {
     MoveTo(Stretch),
     Do(Stretch),

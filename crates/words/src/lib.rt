@@ -1,4 +1,5 @@
 // The words of a text, found by place, with their kinds.
+#![tactic(auto)]
 ghost use Rattle.std.specs.Prelude.{◌≡◌, ◌+◌, ◌-◌, ◌≤◌, ◌<◌, length, drop, take};
 ghost use Rattle.grammar.specs.Words.{white, name_char, run_length, same, begins, run_end, dollar_length, word_length};
 ghost use Rattle.words.specs.Scanning.{Skipped, RunEnds, Next};
@@ -95,7 +96,7 @@ fn word_end(text: &[u8], at: usize) -> usize
 }
 
 // A word: its kind, and where it starts and ends.
-#[derive(Drop)]
+#[derive(Clone, Copy)]
 pub struct Word {
     pub kind: u8,
     pub start: usize,

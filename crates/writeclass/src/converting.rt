@@ -18,7 +18,7 @@ use writing::write_text;
 const FILE: usize = 262144;
 
 // The bytes of the file from one place to another, which are the second head, and so many bytes of the text; or why there are none.
-#[derive(Drop)]
+#[derive(Clone, Copy)]
 pub enum Outcome {
     Text(usize, usize, usize),
     Refused(Why),

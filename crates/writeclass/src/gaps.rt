@@ -18,7 +18,7 @@ use sheet::judging::Places;
 use texts::writing::least;
 
 // A number that has no name: a command's, or a child state's.
-#[derive(Drop)]
+#[derive(Clone, Copy)]
 pub enum Gap {
     Command(usize),
     State(usize),

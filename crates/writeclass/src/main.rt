@@ -1,6 +1,7 @@
 // writeclass: reads two heads and a class sheet from standard input, and writes the class file of that sheet to standard output: the
 // second head as it stands, and the class text. The first head names the class and its own states. Where something is refused there is no
 // output, and one line on standard error says why.
+#![tactic(auto)]
 mod converting;
 mod gaps;
 mod messages;

@@ -1,0 +1,18 @@
+-- The invariant: the first a action clauses are right. A turn looks at one more.
+-- Assumes nothing.
+use Prim.Native.Nat.{◌≤◌, ◌-◌}
+use mathlib.Core.Path.{◌≡◌, sym}
+use mathlib.Core.Bool.{true}
+use borrow.Author.Rules.{rules}
+use Rattle.model.specs.Words.{each}
+use Rattle.model.proofs.Words.{each_none, each_so_far, each_all, each_broken, passed, not_passed}
+use Rattle.bodies.specs.BodyRules.{action_right, actions_plain}
+use mathlib.Core.Path.{ap}
+use mathlib.Core.Bool.{not}
+use Rattle.bodies.proofs.checks.each_action_ok.Given as goal
+
+abbrev pub invariant-loop-a : goal.invariant-loop-a
+invariant-loop-a l = (l.a ≤ l.n) × (each l.a (action_right l.actions) ≡ true)
+
+abbrev pub decreases-loop-a : goal.decreases-loop-a
+decreases-loop-a l = l.n - l.a

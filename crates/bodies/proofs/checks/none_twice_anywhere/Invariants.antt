@@ -1,0 +1,18 @@
+-- The invariant: no command stands twice in any of the first q states. A turn looks at one more.
+-- Assumes nothing.
+use Prim.Native.Nat.{◌≤◌, ◌-◌}
+use mathlib.Core.Path.{◌≡◌, sym}
+use mathlib.Core.Bool.{true}
+use borrow.Author.Rules.{rules}
+use Rattle.model.specs.Words.{each}
+use Rattle.model.proofs.Words.{each_none, each_so_far, each_all, each_broken, passed, not_passed}
+use Rattle.bodies.specs.BodyRules.{none_twice, commands_apart}
+use mathlib.Core.Path.{ap}
+use mathlib.Core.Bool.{not}
+use Rattle.bodies.proofs.checks.none_twice_anywhere.Given as goal
+
+abbrev pub invariant-loop-q : goal.invariant-loop-q
+invariant-loop-q l = (l.q ≤ l.n) × (each l.q (none_twice l.states l.actions) ≡ true)
+
+abbrev pub decreases-loop-q : goal.decreases-loop-q
+decreases-loop-q l = l.n - l.q

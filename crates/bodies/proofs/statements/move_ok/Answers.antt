@@ -1,0 +1,7 @@
+-- Every part of the test is what its reader ensures.
+-- Assumes nothing.
+use borrow.Author.Rules.{rules}
+use Rattle.bodies.proofs.statements.move_ok.Goals as goal
+
+pub returns : goal.returns
+returns c = cc

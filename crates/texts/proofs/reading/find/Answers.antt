@@ -1,0 +1,19 @@
+-- The invariant: the byte was not met from the first place up to this one.
+-- Assumes nothing.
+use Prim.Native.Nat.{◌-◌}
+use lib.ListN.{length}
+use Rattle.texts.proofs.FieldLaws.{Seeking, seek_none, seek_on, seek_found, seek_end}
+use borrow.Author.Rules.{rules}
+use Rattle.texts.proofs.reading.find.Goals as goal
+
+pub loop-at-init : goal.loop-at-init
+loop-at-init c = seek_none _ _ _
+
+pub returns-then-bytes-at : goal.returns-then-bytes-at
+returns-then-bytes-at c = seek_found _ _ _ _ c.loop-at.invariant c.loop-at-test.true c.if-bytes-at.true
+
+pub loop-at-preserved : goal.loop-at-preserved
+loop-at-preserved c = seek_on _ _ _ _ c.loop-at.invariant c.loop-at-test.true c.if-bytes-at.false
+
+pub returns : goal.returns
+returns c = seek_end _ _ _ _ c.loop-at.invariant c.loop-at-test.false

@@ -1,0 +1,15 @@
+-- The invariant: the digits of the first i bytes are appended. A turn appends those of one more.
+-- Assumes nothing.
+use Prim.Native.Nat.{◌-◌, ◌≤◌}
+use mathlib.Core.Path.{◌≡◌, ◌∙◌}
+use lib.ListN.{length, take}
+use Rattle.texts.specs.Texts.{Appended, hex_text}
+use Rattle.texts.proofs.Appending.{appended_none, appended_hex, appended_all_hex}
+use borrow.Author.Rules.{rules}
+use Rattle.texts.proofs.writing.append_hex.Given as goal
+
+abbrev pub invariant-loop-i : goal.invariant-loop-i
+invariant-loop-i l = (l.i ≤ length l.bytes) × (length l.out ≡ length l.initial.out) × Appended l.initial.out l.out l.at (hex_text (take l.i l.bytes)) l.end
+
+abbrev pub decreases-loop-i : goal.decreases-loop-i
+decreases-loop-i l = length l.bytes - l.i
