@@ -1,0 +1,16 @@
+-- `cells_mask`: the mask of the cells from i on.
+-- Assumes nothing.
+use borrow.Author.Rules.{rules}
+use Prim.Native.Nat.{◌-◌}
+use native.Mathlib.Omega.{arith}
+use mathlib.Core.Path.{sym, ◌∙◌}
+use Rattle.records.specs.Patterns.{pattern_as}
+use Rattle.lanes.specs.Masks.{wanted}
+use Rattle.lanes.proofs.MaskLaws.{Masking, masking_small, masking_start, masking_held, masking_past, masking_end}
+use Rattle.lanes.proofs.masks.cells_mask.Given as goal
+
+abbrev pub invariant-loop-i : goal.invariant-loop-i
+invariant-loop-i l = Masking (wanted (pattern_as l.pattern) l.set l.inside) l.classes l.names l.initial.i l.mask l.i
+
+abbrev pub decreases-loop-i : goal.decreases-loop-i
+decreases-loop-i l = l.i
