@@ -1,5 +1,6 @@
 // Which word the bytes are: two strings compared, the number of a fixed word, a name.
 #![tactic(auto)]
+
 ghost use Rattle.std.specs.Prelude.{◌≡◌, [], ◌-◌, ◌<◌, ◌≤◌, length, get_or, take, drop, eqb};
 ghost use Rattle.model.specs.Words.{every};
 ghost use Rattle.grammar.specs.Words.{name_char, same, position, fixed_words, bare_runs, is_name};
