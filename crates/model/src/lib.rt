@@ -1,6 +1,7 @@
 // The model: what a class, a child list, a probe, a when phase and a command mean. Definitions are in specs/, their theory in proofs/.
 // Here stand the three kinds of number that are never taken for one another, the refusals, and the answers to the questions.
 #![tactic(auto)]
+
 ghost use Rattle.std.specs.Prelude.{◌≡◌};
 ghost use Rattle.model.specs.Refusals.{number_of};
 

@@ -18,12 +18,12 @@ loop-w-init c = (search rules, each_none _)
 pub returns-then-not-guard_ok : goal.returns-then-not-guard_ok
 unfolding guards_right
 returns-then-not-guard_ok c =
-   let a = c.args in
+    let a = c.args in
     sym (each_broken _ _ _ c.loop-w-test.true (not_passed (c.guard_ok.ensures ∙ ap (λ (p : ℕ). is_read (guard_from a.guards.now p)) c.guard_place.ensures) (ap not c.if-not-guard_ok.true)))
 
 pub loop-w-preserved : goal.loop-w-preserved
 loop-w-preserved c =
-   let l = c.loop-w in
+    let l = c.loop-w in
     let a = c.args in
     (search rules, each_so_far _ _ l.invariant.1 (passed (c.guard_ok.ensures ∙ ap (λ (p : ℕ). is_read (guard_from a.guards.now p)) c.guard_place.ensures) (ap not c.if-not-guard_ok.false)))
 

@@ -18,13 +18,13 @@ loop-i-init c = (search rules, each_none _)
 pub returns-then-not-command_is_new : goal.returns-then-not-command_is_new
 unfolding none_twice
 returns-then-not-command_is_new c =
-   let l = c.loop-i in
+    let l = c.loop-i in
     let a = c.args in
     sym (each_broken _ l.i _ (omega arith) (not_passed (c.command_is_new.ensures ∙ ap (λ (f : ℕ). new_command a.actions.now f l.i) c.count_sum-first.ensures.0) (ap not c.if-not-command_is_new.true)))
 
 pub loop-i-preserved : goal.loop-i-preserved
 loop-i-preserved c =
-   let l = c.loop-i in
+    let l = c.loop-i in
     let a = c.args in
     (search rules, each_so_far _ _ l.invariant.1 (passed (c.command_is_new.ensures ∙ ap (λ (f : ℕ). new_command a.actions.now f l.i) c.count_sum-first.ensures.0) (ap not c.if-not-command_is_new.false)))
 

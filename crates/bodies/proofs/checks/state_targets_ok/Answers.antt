@@ -21,13 +21,13 @@ loop-i-init c = (search rules, each_none _)
 pub returns-then-not-target_ok : goal.returns-then-not-target_ok
 unfolding state_targets_right
 returns-then-not-target_ok c =
-   let l = c.loop-i in
+    let l = c.loop-i in
     let a = c.args in
     sym (each_broken _ l.i _ (omega arith) (not_passed (c.target_ok.ensures ∙ target_in (in_fours a.states.now) a.whens.now l.i c.count_at-own_actions.ensures.0 c.count_sum-first.ensures.0) (ap not c.if-not-target_ok.true)))
 
 pub loop-i-preserved : goal.loop-i-preserved
 loop-i-preserved c =
-   let l = c.loop-i in
+    let l = c.loop-i in
     let a = c.args in
     (search rules, each_so_far _ _ l.invariant.1 (passed (c.target_ok.ensures ∙ target_in (in_fours a.states.now) a.whens.now l.i c.count_at-own_actions.ensures.0 c.count_sum-first.ensures.0) (ap not c.if-not-target_ok.false)))
 

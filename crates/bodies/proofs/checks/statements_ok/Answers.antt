@@ -20,13 +20,13 @@ loop-a-init c = (search rules, each_none _)
 pub returns-then-not-body_ok : goal.returns-then-not-body_ok
 unfolding statements_right
 returns-then-not-body_ok c =
-   let s = c.args in
+    let s = c.args in
     let e = c.body_ok.ensures ∙ body_reads (in_fours s.classes.now) (in_fours s.states.now) s.guards.now s.actions.now s.statements.now _ _ c.statements_of.ensures in
     sym (each_broken _ _ _ c.loop-a-test.true (not_passed e (ap not c.if-not-body_ok.true)))
 
 pub loop-a-preserved : goal.loop-a-preserved
 loop-a-preserved c =
-   let s = c.args in
+    let s = c.args in
     let e = c.body_ok.ensures ∙ body_reads (in_fours s.classes.now) (in_fours s.states.now) s.guards.now s.actions.now s.statements.now _ _ c.statements_of.ensures in
     (search rules, each_so_far _ _ c.loop-a.invariant.1 (passed e (ap not c.if-not-body_ok.false)))
 

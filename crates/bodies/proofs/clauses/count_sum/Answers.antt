@@ -16,6 +16,6 @@ loop-i-preserved c = let l = c.loop-i in (search rules, sum_next _ _ l.i _ _ l.i
 
 pub returns : goal.returns
 returns c =
-   let a = c.args in
+    let a = c.args in
     let l = c.loop-i in
     (l.invariant.1 ∙ ap (count_sum a.b.now a.offset) (let e : l.i ≡ a.n = omega arith in e), omega arith)

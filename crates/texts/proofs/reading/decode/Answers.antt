@@ -26,9 +26,9 @@ pub returns-then-not-right-clause-decoded : goal.returns-then-not-right-clause-d
 returns-then-not-right-clause-decoded c = decode_wrong _ _ _ c.if-n-eq0.false c.if-n-eq1.false c.all_hex.ensures c.if-not-right.true
 
 pub returns-clause-within : goal.returns-clause-within
-returns-clause-within c =     let t = c.if-not-right.false in
+returns-clause-within c = let t = c.if-not-right.false in
     let u = c.unpack.ensures in prefix_len_of_le _ _ (decode_fits _ _ _ _ t u)
 
 pub returns-clause-decoded : goal.returns-clause-decoded
-returns-clause-decoded c =     let t = c.if-not-right.false in
+returns-clause-decoded c = let t = c.if-not-right.false in
     let u = c.unpack.ensures in decode_right _ _ _ _ c.if-n-eq0.false c.if-n-eq1.false c.all_hex.ensures t u

@@ -14,7 +14,7 @@ loop-i-init c = (search rules, refl, refl)
 
 pub loop-i-preserved : goal.loop-i-preserved
 loop-i-preserved c =
-   let v = c.loop-i.invariant in
+    let v = c.loop-i.invariant in
     (search rules, c.append_byte.auto.out ∙ v.1, unpack_on _ _ _ _ _ _ c.loop-i-test.true v.2 c.pair_value.ensures c.append_byte.ensures.buffer)
 
 pub returns : goal.returns

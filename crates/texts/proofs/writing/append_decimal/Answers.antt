@@ -9,6 +9,6 @@ use Rattle.texts.proofs.writing.append_decimal.Goals as goal
 
 pub returns : goal.returns
 returns c =
-   let d = c.decimal-k.ensures in
+    let d = c.decimal-k.ensures in
     let n = c.args.n in
     appended_same _ _ _ _ _ _ (d.digits ∙ decimal_digits n _ (omega arith) d.len) c.append_bytes.ensures
