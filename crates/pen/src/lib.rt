@@ -1,5 +1,6 @@
 // Writing bytes into a lent buffer: past its end nothing is stored, and a place past the last number is the last number.
 #![tactic(auto)]
+
 ghost use Rattle.std.specs.Prelude.{◌≡◌, [], ◌∷◌, set};
 ghost use Rattle.pen.specs.Writing.{behind, two, Puts};
 
