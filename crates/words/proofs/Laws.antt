@@ -1,20 +1,18 @@
 -- The turns of the loops that find words.
 -- Assumes nothing.
-use Prim.Native.Nat.{ℕ, zero, suc, ◌+◌, ◌-◌, ◌<◌, ◌≤◌}
+use Prim.Native.Nat.{ℕ, suc, ◌+◌, ◌-◌, ◌<◌, ◌≤◌}
 use native.Mathlib.Omega.{arith}
 use native.Mathlib.Numerals.{add-one}
 use mathlib.Core.Path.{◌≡◌, refl, sym, ◌∙◌, ap, subst}
-use mathlib.Core.Bool.{Bool, true, false, ◌&&◌, ◌||◌, not, and-false}
+use mathlib.Core.Bool.{Bool, true, false, ◌||◌, and-false}
 use mathlib.Core.List.{List, [], ◌∷◌}
-use lib.Dec.{eqb, leb, ltb}
+use lib.Dec.{eqb}
 use lib.ListN.{length, get_or, take, drop, length-take, length-drop, get_or-eq_default, drop_of_length-le}
 use lib.Seq.{drop-cons, drop-length, drop-drop, get_or-drop}
-use borrow.Author.Tests.{eqb-true, eqb-false, ltb-true, ltb-false, lt-ltb, le-ltb, eq-eqb, ne_eqb}
-use Rattle.model.specs.Words.{choose}
+use borrow.Author.Tests.{eq-eqb, ne_eqb}
 use Rattle.grammar.specs.Grammar.{fixed, end_word}
 use Rattle.grammar.specs.Words.{Word, white, name_char, same, run_length, begins, colon_run, run_end, dollar_length, spelled, cut, word_at, end_at, word_length}
-use Rattle.grammar.proofs.Machine.{clash}
-use Rattle.grammar.proofs.Words.{same_length, cut_white, cut_word, word_fits, Fits}
+use Rattle.grammar.proofs.Words.{cut_white, cut_word, word_fits, Fits}
 use Rattle.words.specs.Scanning.{words_from, Skipped, Next, behind, RunEnds}
 use Rattle.kinds.specs.Kind.{OfKind}
 use Rattle.kinds.proofs.Laws.{same_apart}

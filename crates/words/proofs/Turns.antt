@@ -4,8 +4,8 @@ use Prim.Native.Nat.{ℕ, zero, suc, ◌-◌}
 use native.Mathlib.Omega.{arith}
 use mathlib.Core.Path.{◌≡◌, refl, sym, ◌∙◌, ap, subst}
 use mathlib.Core.List.{List, [], ◌∷◌}
-use borrow.Author.Tests.{ne_eqb, eq-eqb}
-use Rattle.grammar.specs.Grammar.{Token, fixed, name, end_word}
+use borrow.Author.Tests.{ne_eqb}
+use Rattle.grammar.specs.Grammar.{fixed, name, end_word}
 use Rattle.grammar.specs.Words.{tokens}
 use Rattle.grammar.specs.Kinds.{kind_of, bytes_of, token_as}
 use Rattle.words.specs.Scanning.{words_from, tokens_from, stretch, end_kind, behind, Next}

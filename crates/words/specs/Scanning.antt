@@ -1,6 +1,6 @@
 -- The words of a text from a place on, and what the function that finds the next one promises.
 -- Assumes nothing.
-use Rattle.std.specs.Prelude.{ℕ, ◌+◌, ◌-◌, ◌<◌, ◌≤◌, ◌≡◌, Bool, true, false, List, [], ◌∷◌, eqb, length, get_or, drop, take}
+use Rattle.std.specs.Prelude.{ℕ, ◌+◌, ◌-◌, ◌<◌, ◌≤◌, ◌≡◌, false, List, [], ◌∷◌, eqb, length, get_or, drop, take}
 use Rattle.model.specs.Words.{choose}
 use Rattle.grammar.specs.Grammar.{Token}
 use Rattle.grammar.specs.Words.{Word, white, run_length, cut, tokens}

@@ -1,5 +1,6 @@
 // The words of a text, found by place, with their kinds.
 #![tactic(auto)]
+
 ghost use Rattle.std.specs.Prelude.{◌≡◌, ◌+◌, ◌-◌, ◌≤◌, ◌<◌, length, drop, take};
 ghost use Rattle.grammar.specs.Words.{white, name_char, run_length, same, begins, run_end, dollar_length, word_length};
 ghost use Rattle.words.specs.Scanning.{Skipped, RunEnds, Next};
