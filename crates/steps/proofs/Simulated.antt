@@ -11,7 +11,6 @@ use lib.ListN.{length}
 use borrow.Author.Tests.{eqb-true, eqb-false, eq-eqb, ne_eqb}
 use Rattle.model.specs.Words.{choose, maybe}
 use Rattle.grammar.specs.Grammar.{Token, fixed, name, Name, Row, ◌then◌, Operand, not, brackets, Guard, When, Action, Part, stay, single, braces}
-use Rattle.grammar.specs.Grammar as grammar
 use Rattle.grammar.specs.Kinds.{kind_of}
 use Rattle.grammar.specs.Machine.{Within, list_of, body, then_part, else_part, Owner, a_when, an_if, guard_in, owned, bracket, conj_in, first, after_or, operand_in, first_of, after_and, after_not, At, start, class_read, top_read, class_named, state_read, in_whens, operand_wanted, kin_wanted, side_wanted, set_wanted, left_read, comma_read, names_read, operand_read, move_read, do_read, stay_read, action_read, statements, send_read, command_read, send_all_read, go_read, finished, Move, on, on_name, filled, outer, whole, owner_moves, closing_moves, action_moves, when_moves, ending_moves, atom_of, moves, answer, next}
 use Rattle.steps.specs.declared.Want.{Want}

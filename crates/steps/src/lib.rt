@@ -1,5 +1,6 @@
 // The machine that reads a text word by word, by numbers: what is wanted next, and what is open.
 #![tactic(auto)]
+
 ghost use Rattle.std.specs.Prelude.{◌<◌, ◌≡◌, eqb};
 ghost use Rattle.steps.specs.declared.Go.TheVariants.{Stop};
 ghost use Rattle.steps.specs.Turns.{action_turns, when_turns, operand_turns, closing_turns, operator_turns, ending_turns, statement_turns, turns};
