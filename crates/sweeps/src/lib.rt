@@ -1,6 +1,7 @@
 // Statements run on a set of lanes: those that a move_to takes go into the table of a block, word q * 32 + t for a move from state q to state t,
 // and the others are left. What is swept is in specs/Sweeps.antt.
 #![tactic(auto)]
+
 ghost use Rattle.std.specs.Prelude.{◌≡◌, ◌<◌, length};
 ghost use Rattle.bodies.specs.StatementReaders.{statement_record};
 ghost use Rattle.bodies.specs.declared.statements.StatementRecord.TheVariants.{If};

@@ -1,0 +1,60 @@
+-- `sweep_list` runs one statement after the other: who runs the rest of the list on the lanes that are left has run all, and each turn the rest
+-- gets shorter. `sweep_if` runs each part on the lanes that its guard chooses. With each call the bytes get fewer, but for the call of
+-- `sweep_if`, whose measure is one less on the same bytes.
+-- Assumes nothing.
+use borrow.Author.Rules.{rules}
+use Prim.Native.Nat.{ℕ, ◌+◌, ◌-◌, ◌*◌, ◌<◌}
+use native.Mathlib.Omega.{arith}
+use mathlib.Core.Path.{◌≡◌, refl, sym, ap, ◌∙◌}
+use lib.ListN.{length, take, drop}
+use Rattle.bodies.specs.StatementReaders.{behind_statement}
+use Rattle.bodies.specs.declared.statements.StatementRecord.{StatementRecord}
+use Rattle.bodies.specs.declared.statements.StatementRecord.TheVariants.{Do, If}
+use Rattle.bodies.proofs.ReaderLaws.{told, parts_fall}
+use Rattle.sweeps.proofs.SweepLaws.{sweep_if as swept-if, Sweeping, sweeping_start, sweeping_end, sweeping_sent, sweeping_on, swept_go, swept_nothing, rest_short, behind_short, rest_falls}
+use Rattle.sweeps.proofs.+sweep_if_sweep_list.Goals as goal
+
+pub sweep_if-sweep_list-first-requires : goal.sweep_if-sweep_list-first-requires
+sweep_if-sweep_list-first-requires t c =
+    (omega (arith, parts_fall 0 c.args.branch.thens c.args.part.now c.then_part.result.now (told c.args.part.now _ (sym c.requires.part_value)).0 c.then_part.ensures), c.requires.q_bound)
+
+pub sweep_if-sweep_list-second-requires : goal.sweep_if-sweep_list-second-requires
+sweep_if-sweep_list-second-requires t c =
+    (omega (arith, parts_fall c.args.branch.thens c.args.branch.elses c.args.part.now c.else_part.result.now (told c.args.part.now _ (sym c.requires.part_value)).0 c.else_part.ensures), (c.requires.q_bound.0, c.sweep_list-first.ensures.kept.long ∙ c.requires.q_bound.1))
+
+pub sweep_if-returns : goal.sweep_if-returns
+sweep_if-returns t c =
+    swept-if _ _ _ _ _ _ (sym c.requires.part_value) _ c.word_at-word.ensures _ c.then_part.ensures c.sweep_list-first.ensures _ c.else_part.ensures c.sweep_list-second.ensures
+
+pub sweep_list-loop-left-init : goal.sweep_list-loop-left-init
+sweep_list-loop-left-init t c = sweeping_start _ _ _ _ _
+
+pub sweep_list-loop-left-smaller-in-Do : goal.sweep_list-loop-left-smaller-in-Do
+sweep_list-loop-left-smaller-in-Do t c =
+    let rest = take (length c.args.part.now - c.loop-left.at) (drop c.loop-left.at c.args.part.now) in
+    rest_falls _ _ _ _ _ _ _ _ c.loop-left.invariant _ refl (Do c.in-Do.field-0 c.in-Do.field-1) _ (told rest _ (sym c.in-Do.is ∙ c.statement_record-front.ensures)).0 (c.behind_statement.ensures ∙ ap (λ (r : StatementRecord). behind_statement r rest) c.in-Do.is)
+
+pub sweep_list-loop-left-preserved-in-Do : goal.sweep_list-loop-left-preserved-in-Do
+sweep_list-loop-left-preserved-in-Do t c =
+    let rest = take (length c.args.part.now - c.loop-left.at) (drop c.loop-left.at c.args.part.now) in
+    sweeping_sent _ _ _ _ _ _ _ _ c.loop-left.invariant _ refl _ _ (sym c.in-Do.is ∙ c.statement_record-front.ensures) _ (c.behind_statement.ensures ∙ ap (λ (r : StatementRecord). behind_statement r rest) c.in-Do.is)
+
+pub sweep_list-returns-in-MoveTo : goal.sweep_list-returns-in-MoveTo
+sweep_list-returns-in-MoveTo t c =
+    swept_go _ _ _ _ _ _ _ _ c.loop-left.invariant _ refl _ _ _ (sym c.in-MoveTo.is ∙ c.statement_record-front.ensures) refl c.add_lanes.ensures
+
+pub sweep_list-loop-left-smaller : goal.sweep_list-loop-left-smaller
+sweep_list-loop-left-smaller t c =
+    let rest = take (length c.args.part.now - c.loop-left.at) (drop c.loop-left.at c.args.part.now) in
+    rest_falls _ _ _ _ _ _ _ _ c.loop-left.invariant _ refl (If c.in-If.branch) _ (told rest _ (sym c.in-If.is ∙ c.statement_record-front.ensures)).0 c.behind_statement-in-If.ensures
+
+pub sweep_list-loop-left-preserved : goal.sweep_list-loop-left-preserved
+sweep_list-loop-left-preserved t c =
+    sweeping_on _ _ _ _ _ _ _ _ c.loop-left.invariant _ refl _ (sym c.in-If.is ∙ c.statement_record-front.ensures) c.sweep_if-left.ensures _ c.behind_statement-in-If.ensures
+
+pub sweep_list-returns-in-Unknown : goal.sweep_list-returns-in-Unknown
+sweep_list-returns-in-Unknown t c =
+    swept_nothing _ _ _ _ _ _ _ _ c.loop-left.invariant _ refl (sym c.in-Unknown.is ∙ c.statement_record-front.ensures)
+
+pub sweep_list-returns : goal.sweep_list-returns
+sweep_list-returns t c = sweeping_end _ _ _ _ _ _ _ _ c.loop-left.invariant c.loop-left-test.false
