@@ -1,5 +1,6 @@
 // The first word of a text that cannot stand.
 #![tactic(auto)]
+
 ghost use Rattle.std.specs.Prelude.{◌≡◌, length};
 ghost use Rattle.recognised.specs.Watching.{seen_after, begun_at, HadElse, Watched, Noted};
 ghost use Rattle.recognised.specs.Recognised.{Recognised};
