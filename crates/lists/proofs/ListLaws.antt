@@ -5,13 +5,12 @@ use native.Mathlib.Omega.{arith}
 use mathlib.Core.Path.{◌≡◌, refl, sym, ◌∙◌, ap}
 use mathlib.Core.Bool.{Bool, true, false, and-false}
 use mathlib.Core.List.{List}
-use lib.Dec.{eqb}
 use lib.ListN.{length, get_or}
 use borrow.Author.Tests.{eq-eqb, ne_eqb}
-use Rattle.model.specs.Words.{every, listed}
+use Rattle.model.specs.Words.{every}
 use Rattle.model.proofs.Lists.{length_listed, getD_listed}
 use Rattle.records.specs.Bytes.{u32}
-use Rattle.naming.specs.NameLists.{Lists, child_names, class_sets, records_in, record_right, none_twice, list_right, bits_named, lists_right, padded, number_in, listed_in}
+use Rattle.naming.specs.NameLists.{Lists, class_sets, records_in, record_right, none_twice, list_right, bits_named, lists_right, padded, number_in, listed_in}
 use Rattle.lists.specs.Lent.{lent, name_record, found_from, sets_in, Count}
 use Rattle.lists.specs.declared.Found.TheVariants.{At, Nowhere}
 use Rattle.lists.proofs.TableLaws.{left, left_all, found_at, found_nowhere}

@@ -1,6 +1,7 @@
 // The lent lists: child state names, commands, child classes with their name sets. What they mean is in naming/specs, what the functions
 // promise in specs/, what is shown of them in proofs/.
 #![tactic(auto)]
+
 ghost use Rattle.std.specs.Prelude.{◌≡◌, ◌≤◌, ◌<◌, ◌/◌, length, get_or, drop};
 ghost use Rattle.grammar.specs.Words.{same};
 ghost use Rattle.naming.specs.NameLists.{padded, records_in};
