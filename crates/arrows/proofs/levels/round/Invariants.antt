@@ -1,0 +1,16 @@
+-- `round`: the next level of the states before q, and the lanes that are in any of them.
+-- Assumes nothing.
+use borrow.Author.Rules.{rules}
+use Prim.Native.Nat.{◌-◌, ◌≤◌}
+use native.Mathlib.Omega.{arith}
+use mathlib.Core.Path.{◌≡◌, refl, sym, ◌∙◌}
+use lib.ListN.{length, length-set}
+use Rattle.arrows.specs.Levels.{Rounds}
+use Rattle.arrows.proofs.LevelLaws.{next_none, next_some, rounds_start, rounds_more, rounds_skip, rounds_end}
+use Rattle.arrows.proofs.levels.round.Given as goal
+
+abbrev pub invariant-loop-q : goal.invariant-loop-q
+invariant-loop-q l = ((l.q ≤ l.s) × (length l.next ≡ 32)) × Rounds l.s l.table l.level l.q l.next l.all
+
+abbrev pub decreases-loop-q : goal.decreases-loop-q
+decreases-loop-q l = l.s - l.q

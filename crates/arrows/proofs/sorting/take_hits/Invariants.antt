@@ -1,0 +1,14 @@
+-- `take_hits`: after the clauses before m, the words have what these take, and the rest remains.
+-- Assumes nothing.
+use borrow.Author.Rules.{rules}
+use Prim.Native.Nat.{◌-◌}
+use native.Mathlib.Omega.{arith}
+use mathlib.Core.Path.{refl}
+use Rattle.arrows.proofs.SortingLaws.{Taking, taking_start, taking_hit, taking_past, taking_end}
+use Rattle.arrows.proofs.sorting.take_hits.Given as goal
+
+abbrev pub invariant-loop-m : goal.invariant-loop-m
+invariant-loop-m l = Taking l.places l.aims l.words l.first l.last l.counted l.initial.table l.m l.remaining l.table
+
+abbrev pub decreases-loop-m : goal.decreases-loop-m
+decreases-loop-m l = l.last - l.m
