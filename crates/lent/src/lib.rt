@@ -1,5 +1,6 @@
 // The lent lists are in order: whole records, each that of a name, no name twice, and every bit of a name set has a name.
 #![tactic(auto)]
+
 ghost use Rattle.std.specs.Prelude.{◌≡◌, ◌≤◌, ◌<◌, ◌/◌, length};
 ghost use Rattle.model.specs.Words.{every, some_in};
 ghost use Rattle.grammar.specs.Words.{same};
