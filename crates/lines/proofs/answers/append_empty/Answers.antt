@@ -1,0 +1,7 @@
+-- The two bytes of the field.
+-- Assumes nothing.
+use borrow.Author.Rules.{rules}
+use Rattle.lines.proofs.answers.append_empty.Goals as goal
+
+pub returns : goal.returns
+returns c = c.append_bytes.ensures

@@ -1,0 +1,8 @@
+-- The three numbers, and the empty field behind them.
+-- Assumes nothing.
+use Rattle.texts.proofs.Appending.{appended_then}
+use borrow.Author.Rules.{rules}
+use Rattle.lines.proofs.answers.append_unclosed.Goals as goal
+
+pub returns : goal.returns
+returns c = appended_then _ _ _ _ _ _ _ _ c.say_three-end.ensures c.append_empty.ensures
