@@ -1,20 +1,17 @@
 -- Laws of tables of places: how one is filled, and how names are looked up in it and behind it.
 -- Assumes nothing.
-use Prim.Native.Nat.{ℕ, zero, suc, ◌+◌, ◌-◌, ◌*◌, ◌<◌, ◌≤◌}
+use Prim.Native.Nat.{ℕ, ◌+◌, ◌-◌, ◌*◌, ◌<◌, ◌≤◌}
 use native.Mathlib.Omega.{arith}
 use native.Mathlib.Numerals.{add-one}
 use mathlib.Core.Path.{◌≡◌, refl, sym, ◌∙◌, ap}
-use mathlib.Core.Bool.{Bool, true, false, ◌&&◌, ◌||◌, not}
 use mathlib.Core.List.{List, [], ◌∷◌, ◌++◌}
 use mathlib.Core.Logic.{◌⊎◌, inl, inr}
-use lib.Dec.{eqb, ltb}
-use lib.ListN.{length, get_or, take, drop, set, length-set}
-use lib.Seq.{append_snoc, get_or-set_same, get_or-set_other}
-use Rattle.model.specs.Words.{choose, every, some_in, listed}
-use Rattle.model.proofs.Words.{clash, lt_or_le}
-use Rattle.model.proofs.Lists.{listed_more, listed_same, length_listed}
+use lib.ListN.{length, get_or, set, length-set}
+use lib.Seq.{get_or-set_same, get_or-set_other}
+use Rattle.model.specs.Words.{listed}
+use Rattle.model.proofs.Words.{lt_or_le}
+use Rattle.model.proofs.Lists.{listed_more, listed_same}
 use Rattle.grammar.specs.Grammar.{Name}
-use Rattle.grammar.specs.Words.{same, position}
 use Rattle.words.specs.Scanning.{stretch}
 use Rattle.own.specs.Ahead.{names_from}
 use Rattle.own.specs.declared.Named.{Named}

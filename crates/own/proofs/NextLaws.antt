@@ -8,11 +8,11 @@ use mathlib.Core.List.{List, [], ◌∷◌}
 use lib.Dec.{eqb}
 use lib.ListN.{length, take, drop}
 use borrow.Author.Tests.{eqb-true, eqb-false, eq-eqb, ne_eqb}
-use Rattle.model.specs.Words.{choose, kept}
+use Rattle.model.specs.Words.{choose}
 use Rattle.model.proofs.Words.{clash}
 use Rattle.grammar.specs.Grammar.{Token, fixed, name, Name, end_word}
 use Rattle.grammar.specs.Kinds.{kind_of, bytes_of, token_as}
-use Rattle.words.specs.Scanning.{tokens_from, stretch, end_kind, Next}
+use Rattle.words.specs.Scanning.{tokens_from, stretch, Next}
 use Rattle.words.proofs.Turns.{turn, last, kind_as, a_name, a_fixed}
 use Rattle.own.specs.Ahead.{first_bytes, names_ahead, names_from}
 use Rattle.own.specs.Held.{Kinds, Here}

@@ -3,11 +3,11 @@
 use Prim.Native.Nat.{ℕ}
 use mathlib.Core.Path.{◌≡◌, refl, ◌∙◌, ap}
 use mathlib.Core.Bool.{Bool, true, false, ◌&&◌, ◌||◌}
-use mathlib.Core.List.{List, [], ◌∷◌}
+use mathlib.Core.List.{List, ◌∷◌}
 use lib.Dec.{eqb, leb}
 use borrow.Author.Tests.{eqb-true}
 use Rattle.model.proofs.Words.{clash}
-use Rattle.grammar.specs.Grammar.{Token, fixed, name, Name, Row, none, ◌then◌, Kin, children, kin, Names, one, more, Set, single, braces, Quantifier, any, all, Side, inside, outside, Guard, just, or, Conj, only, and, Operand, not, brackets, atom, Referrer, move_to, run, stay, stay_in, When, Part, nothing, send, go_to, if_then, if_else, Action, State, Text, any_word, all_word, when_word, move_word, do_word, stay_word, if_word, then_word, else_word, endif_word, and_word, or_word, not_word, in_word, out_word, open_word, close_word, left_word, right_word, comma_word, children_word, row_words, kin_words, names_words, set_words, quantifier_word, side_word, guard_words, conj_words, operand_words, referrer_words, when_words, part_words}
+use Rattle.grammar.specs.Grammar.{Token, fixed, name, Row, none, ◌then◌, Kin, children, kin, Names, one, more, Set, single, braces, Quantifier, any, all, Side, inside, outside, Guard, just, or, Conj, only, and, Operand, not, brackets, atom, Referrer, move_to, run, stay, stay_in, When, Part, nothing, send, go_to, if_then, if_else, any_word, all_word, when_word, move_word, do_word, stay_word, if_word, then_word, else_word, endif_word, and_word, or_word, not_word, in_word, out_word, open_word, close_word, left_word, right_word, comma_word, children_word, row_words, kin_words, names_words, set_words, quantifier_word, side_word, guard_words, conj_words, operand_words, referrer_words, when_words, part_words}
 use Rattle.grammar.specs.Kinds.{kind_of}
 
 -- a kind that passes a test is not one that does not

@@ -2,11 +2,10 @@
 -- Assumes nothing.
 use Prim.Native.Nat.{ℕ}
 use mathlib.Core.Path.{◌≡◌, refl, sym, ◌∙◌, ap}
-use mathlib.Core.Bool.{Bool, true, false, ◌&&◌, ◌||◌}
+use mathlib.Core.Bool.{false}
 use mathlib.Core.List.{List, [], ◌∷◌, map}
-use lib.Dec.{eqb, leb}
-use Rattle.grammar.specs.Grammar.{Token, fixed, name, Name, Row, none, ◌then◌, When, Part, Action, State, Text, class_word, state_word, action_word, top_word, end_word, row_words, when_words, part_words, action_words, state_words, text_words}
-use Rattle.grammar.specs.Words.{words, tokens}
+use Rattle.grammar.specs.Grammar.{Token, fixed, name, Name, Row, none, ◌then◌, Action, State, Text, end_word, row_words, when_words, action_words, state_words, text_words}
+use Rattle.grammar.specs.Words.{words}
 use Rattle.grammar.specs.Reading.{Says}
 use Rattle.grammar.specs.Kinds.{kind_of, bytes_of}
 use Rattle.naming.specs.Naming.{in_order, all_states, own_names, action_names}

@@ -1,6 +1,6 @@
 -- The places of the first names, held in a table, and what the functions that look names up promise.
 -- Assumes nothing.
-use Rattle.std.specs.Prelude.{ℕ, ◌+◌, ◌-◌, ◌*◌, ◌/◌, ◌<◌, ◌≤◌, ◌≡◌, Bool, not, List, [], ◌∷◌, ◌++◌, length, get_or}
+use Rattle.std.specs.Prelude.{ℕ, ◌+◌, ◌*◌, ◌/◌, ◌<◌, ◌≤◌, ◌≡◌, Bool, not, List, [], ◌∷◌, ◌++◌, length, get_or}
 use Rattle.model.specs.Words.{listed}
 use Rattle.grammar.specs.Grammar.{Name}
 use Rattle.naming.specs.Known.{among}

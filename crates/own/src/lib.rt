@@ -1,6 +1,7 @@
 // Names ahead in a text: those behind the words of one kind, up to the first word of another. The text's own states stand behind state:,
 // up to the end; the actions of a state behind action:, up to the next state:. What is promised is in specs/, what is shown in proofs/.
 #![tactic(auto)]
+
 ghost use Rattle.std.specs.Prelude.{◌≡◌, ◌<◌, ◌≤◌, length};
 ghost use Rattle.model.specs.Words.{listed};
 ghost use Rattle.lists.specs.Lent.{found_from};
