@@ -1,5 +1,6 @@
 // No name stands twice among those ahead in a text.
 #![tactic(auto)]
+
 ghost use Rattle.std.specs.Prelude.{◌≡◌, ◌<◌};
 ghost use Rattle.model.specs.Words.{every, some_in, listed};
 ghost use Rattle.grammar.specs.Words.{same};
