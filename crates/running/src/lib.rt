@@ -1,6 +1,7 @@
 // Statements run on the children of a list: the commands that they send are written into a lent buffer from a place on, as far as it
 // reaches, and the place behind them is answered. Running an action clause is this one function, for a command and for a DO.
 #![tactic(auto)]
+
 ghost use Rattle.std.specs.Prelude.{◌≡◌, [], ◌∷◌, ◌/◌, ◌%◌, ◌<◌, ◌≤◌, length, set};
 ghost use Rattle.std.proofs.lemmas.List.Edits.{sets};
 ghost use Rattle.model.specs.Running.{sent_to};

@@ -1,0 +1,9 @@
+-- `store` is `set`: past the end neither changes anything.
+-- Assumes nothing.
+use mathlib.Core.Path.{sym}
+use lib.Seq.{set_out}
+use borrow.Author.Rules.{rules}
+use Rattle.running.proofs.store.Goals as goal
+
+pub returns-else-at-out : goal.returns-else-at-out
+returns-else-at-out c = sym (set_out _ _ _ c.if-at-out.false)
