@@ -1,7 +1,7 @@
 -- What the record is decides; an operator's operands are read one behind the other, each with one operator less left on the path.
 -- Assumes nothing.
 use native.Mathlib.Omega.{arith}
-use mathlib.Core.Path.{◌≡◌, refl, sym, ◌∙◌, ap}
+use mathlib.Core.Path.{refl, sym, ◌∙◌, ap}
 use Rattle.model.specs.Tree.{opposite}
 use Rattle.records.specs.GuardRecords.{operator}
 use Rattle.records.specs.Records.{operator_as, record_as}

@@ -1,7 +1,6 @@
 -- `atom_ok`: the definition's three tests, on what the byte readers give.
 -- Assumes nothing.
 use Rattle.records.proofs.GuardLaws.{atom_told}
-use borrow.Author.Rules.{rules}
 use Rattle.records.proofs.guards.atom_ok.Goals as goal
 
 pub returns : goal.returns

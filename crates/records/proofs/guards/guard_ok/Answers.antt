@@ -2,7 +2,6 @@
 -- Assumes nothing.
 use mathlib.Core.Path.{sym, ◌∙◌}
 use Rattle.records.proofs.GuardLaws.{ends_read, ends_broken}
-use borrow.Author.Rules.{rules}
 use Rattle.records.proofs.guards.guard_ok.Goals as goal
 
 pub returns-in-At : goal.returns-in-At

@@ -1,6 +1,5 @@
 -- `guard_record`: past the end a record is unknown, else it is what its bytes say.
 -- Assumes nothing.
-use borrow.Author.Rules.{rules}
 use Rattle.records.proofs.GuardLaws.{record_past, record_there}
 use Rattle.records.proofs.guards.guard_record.Goals as goal
 

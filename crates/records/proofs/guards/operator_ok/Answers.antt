@@ -1,6 +1,5 @@
 -- `operator_ok`: the definition's three tests, on what the byte readers give.
 -- Assumes nothing.
-use borrow.Author.Rules.{rules}
 use Rattle.records.proofs.guards.operator_ok.Goals as goal
 
 pub returns : goal.returns

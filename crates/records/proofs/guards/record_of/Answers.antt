@@ -1,7 +1,6 @@
 -- `record_of`: a law for each range of kinds.
 -- Assumes nothing.
 use native.Mathlib.Omega.{arith}
-use borrow.Author.Rules.{rules}
 use Rattle.records.proofs.GuardLaws.{record_atom, record_operator, record_unknown}
 use Rattle.records.proofs.guards.record_of.Goals as goal
 

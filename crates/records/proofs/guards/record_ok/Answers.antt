@@ -1,7 +1,6 @@
 -- `record_ok`: the layout goes by what the record is.
 -- Assumes nothing.
 use mathlib.Core.Path.{sym, ◌∙◌, ap}
-use borrow.Author.Rules.{rules}
 use Rattle.records.specs.Records.{record_as}
 use Rattle.records.proofs.GuardLaws.{layout}
 use Rattle.records.proofs.guards.record_ok.Goals as goal

@@ -1,6 +1,5 @@
 -- 255 is all children, any other byte a child class.
 -- Assumes nothing.
-use borrow.Author.Rules.{rules}
 use Rattle.records.proofs.GuardLaws.{pattern_all, pattern_one}
 use Rattle.records.proofs.kinds.pattern_at.Goals as goal
 

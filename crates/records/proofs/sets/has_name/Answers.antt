@@ -1,6 +1,5 @@
 -- `has_name` meets its contract: the shift and the mask give the bit.
 -- Assumes nothing.
-use borrow.Author.Rules.{rules}
 use Rattle.model.proofs.Masks.{shifted}
 use Rattle.records.proofs.sets.has_name.Goals as goal
 

@@ -5,7 +5,6 @@ use native.Mathlib.Omega.{arith}
 use mathlib.Core.Path.{◌≡◌, ap}
 use lib.ListN.{take, drop}
 use Rattle.records.specs.Bytes.{record_at}
-use borrow.Author.Rules.{rules}
 use Rattle.records.proofs.words.record_at.Goals as goal
 
 pub returns : goal.returns
