@@ -1,6 +1,7 @@
 // The line of the answer to a class text to be written, from the buffer's front on; what is answered is the place behind it. What does
 // not fit is cut off at the buffer's end.
 #![tactic(auto)]
+
 ghost use Rattle.model.specs.Answers.{write_numbers};
 ghost use Rattle.texts.specs.Texts.{Appended};
 ghost use Rattle.lines.specs.Lines.{write_text, write_line};
