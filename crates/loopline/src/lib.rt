@@ -1,6 +1,7 @@
 // The line that loopcheck prints, written from the buffer's front on; what is answered is the place behind it. What does not fit is cut
 // off at the buffer's end.
 #![tactic(auto)]
+
 ghost use Rattle.std.specs.Prelude.{◌≡◌};
 ghost use Rattle.model.specs.Answers.{loop_numbers};
 ghost use Rattle.texts.specs.Texts.{Appended};
