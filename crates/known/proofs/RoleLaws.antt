@@ -1,30 +1,30 @@
 -- Laws of what is asked of a word, one a test of the code, and of the words that are left.
 -- Assumes nothing.
-use Prim.Native.Nat.{ℕ, zero, suc, ◌-◌, ◌≤◌, ◌<◌}
+use Prim.Native.Nat.{ℕ, zero, suc, ◌-◌, ◌<◌}
 use native.Mathlib.Omega.{arith}
 use mathlib.Core.Path.{◌≡◌, refl, sym, ◌∙◌, ap}
 use mathlib.Core.Bool.{Bool, true, false, ◌&&◌, and-true, and-false}
-use mathlib.Core.List.{List, [], ◌∷◌}
+use mathlib.Core.List.{List, []}
 use lib.Dec.{eqb}
-use lib.ListN.{length, drop}
+use lib.ListN.{length}
 use lib.Seq.{drop-length}
 use borrow.Author.Tests.{eq-eqb, ne_eqb}
-use Rattle.model.specs.Words.{choose, listed}
-use Rattle.grammar.specs.Grammar.{Token, fixed, name, Name, Text, end_word, text_words}
+use Rattle.model.specs.Words.{listed}
+use Rattle.grammar.specs.Grammar.{Name, Text}
 use Rattle.grammar.specs.Kinds.{kind_of, bytes_of, token_as}
 use Rattle.grammar.specs.Words.{cut, end_at, tokens, words}
 use Rattle.grammar.specs.Reading.{Says}
 use Rattle.naming.specs.NameLists.{Lists, child_names, command_names, class_names, listed_in, none_twice}
-use Rattle.naming.specs.Naming.{own_names, all_states}
-use Rattle.naming.specs.Known.{among, text_known, state_known}
-use Rattle.lists.specs.Lent.{lent, found_from}
+use Rattle.naming.specs.Naming.{own_names}
+use Rattle.naming.specs.Known.{among, text_known}
+use Rattle.lists.specs.Lent.{found_from}
 use Rattle.lists.specs.declared.Found.{Found}
 use Rattle.lists.specs.declared.Found.TheVariants.{At, Nowhere}
 use Rattle.lists.proofs.TableLaws.{found_at, found_nowhere}
-use Rattle.words.specs.Scanning.{words_from, tokens_from, stretch, end_kind, Next}
+use Rattle.words.specs.Scanning.{words_from, tokens_from, stretch, Next}
 use Rattle.words.proofs.Turns.{turn, last, kind_as, bytes_as}
 use Rattle.own.specs.Ahead.{names_ahead, names_from}
-use Rattle.own.specs.Held.{held, all_names, Holds, Filled}
+use Rattle.own.specs.Held.{all_names, Holds, Filled}
 use Rattle.own.proofs.Trees.{own_from}
 use Rattle.own.proofs.HeldLaws.{filled_holds}
 use Rattle.known.proofs.TreeLaws.{text_told}

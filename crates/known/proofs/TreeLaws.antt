@@ -3,8 +3,8 @@
 use Prim.Native.Nat.{ℕ, suc}
 use native.Mathlib.Omega.{arith}
 use mathlib.Core.Path.{◌≡◌, refl, sym, ◌∙◌, ap}
-use mathlib.Core.Bool.{Bool, true, false, ◌&&◌, ◌||◌, not}
-use mathlib.Core.List.{List, [], ◌∷◌, map}
+use mathlib.Core.Bool.{Bool, true, false, ◌&&◌}
+use mathlib.Core.List.{List, [], ◌∷◌}
 use lib.Dec.{eqb}
 use borrow.Author.Tests.{ne_eqb}
 use Rattle.model.specs.Words.{choose, every}
@@ -12,11 +12,11 @@ use Rattle.model.proofs.Words.{clash}
 use Rattle.grammar.specs.Grammar as G
 use Rattle.grammar.specs.Grammar.{Token, fixed, name, Name, Row, none, ◌then◌, class_word, state_word, action_word, top_word, any_word, all_word, when_word, move_word, do_word, stay_word, if_word, then_word, else_word, endif_word, and_word, or_word, not_word, in_word, out_word, open_word, close_word, left_word, right_word, comma_word, end_word, children_word, row_words, kin_words, names_words, set_words, quantifier_word, side_word, guard_words, conj_words, operand_words, referrer_words, when_words, part_words, action_words, state_words, text_words}
 use Rattle.grammar.specs.Kinds.{kind_of, bytes_of}
-use Rattle.naming.specs.NameLists.{Lists, child_names, command_names, class_names, listed_in, none_twice}
-use Rattle.naming.specs.Naming.{in_order, all_states, own_names, action_names}
-use Rattle.naming.specs.Known.{among, names_known, set_known, kin_known, guard_known, conj_known, operand_known, part_known, referrer_known, when_known, action_known, state_known, text_known}
+use Rattle.naming.specs.NameLists.{Lists, child_names, command_names, listed_in, none_twice}
+use Rattle.naming.specs.Naming.{in_order, all_states, action_names}
+use Rattle.naming.specs.Known.{among, names_known, set_known, kin_known, guard_known, conj_known, operand_known, part_known, referrer_known, when_known, action_known, state_known}
 use Rattle.own.specs.Ahead.{names_ahead}
-use Rattle.own.proofs.Trees.{state_actions, own_ahead}
+use Rattle.own.proofs.Trees.{state_actions}
 use Rattle.known.specs.Roles.{listed_for, own_for, action_for, name_known, word_known, actions_differ, referring_after, actions_after, words_known}
 
 -- a && b && c, either way grouped

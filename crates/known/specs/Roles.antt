@@ -1,13 +1,12 @@
 -- 17, the text, word by word: what is asked of each word by the word before it.
 -- Assumes nothing.
-use Rattle.std.specs.Prelude.{ℕ, ◌≤◌, ◌≡◌, Bool, true, false, ◌&&◌, ◌||◌, List, [], ◌∷◌, eqb}
+use Rattle.std.specs.Prelude.{ℕ, ◌≡◌, Bool, true, false, ◌&&◌, ◌||◌, List, [], ◌∷◌, eqb}
 use Rattle.model.specs.Words.{choose}
 use Rattle.grammar.specs.Grammar.{Token, Name, Text}
 use Rattle.grammar.specs.Kinds.{kind_of, bytes_of}
 use Rattle.grammar.specs.Reading.{Says}
 use Rattle.naming.specs.NameLists.{Lists, child_names, command_names, class_names, listed_in, none_twice}
 use Rattle.naming.specs.Known.{among, text_known}
-use Rattle.words.specs.Scanning.{tokens_from}
 use Rattle.own.specs.Ahead.{names_ahead, names_from}
 use Rattle.own.specs.Held.{all_names, Holds}
 

@@ -1,5 +1,6 @@
 // The names of a text: refusal 17 by the text itself. What each word asks of the next is in specs/, what is shown of it in proofs/.
 #![tactic(auto)]
+
 ghost use Rattle.std.specs.Prelude.{◌≡◌, false, [], length, ◌≤◌};
 ghost use Rattle.naming.specs.NameLists.{records_in, listed_in};
 ghost use Rattle.lists.specs.Lent.{lent};
