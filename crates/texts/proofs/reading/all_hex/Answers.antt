@@ -1,12 +1,8 @@
 -- The invariant: what is left has the answer. A turn looks at one byte.
 -- Assumes nothing.
-use Prim.Native.Nat.{◌-◌}
 use native.Mathlib.Omega.{arith}
-use mathlib.Core.Path.{◌≡◌, refl, sym}
-use lib.ListN.{length, drop}
-use Rattle.texts.specs.Fields.{hex_digits}
+use mathlib.Core.Path.{refl, sym}
 use Rattle.texts.proofs.HexLaws.{hex_on, hex_broken, hex_end}
-use borrow.Author.Rules.{rules}
 use Rattle.texts.proofs.reading.all_hex.Goals as goal
 
 pub loop-i-init : goal.loop-i-init

@@ -1,12 +1,9 @@
 -- The invariant: what is left has the answer. A turn looks at one byte.
 -- Assumes nothing.
 use Prim.Native.Nat.{◌-◌}
-use native.Mathlib.Omega.{arith}
-use mathlib.Core.Path.{◌≡◌, refl, sym}
+use mathlib.Core.Path.{◌≡◌}
 use lib.ListN.{length, drop}
 use Rattle.texts.specs.Fields.{hex_digits}
-use Rattle.texts.proofs.HexLaws.{hex_on, hex_broken, hex_end}
-use borrow.Author.Rules.{rules}
 use Rattle.texts.proofs.reading.all_hex.Given as goal
 
 abbrev pub invariant-loop-i : goal.invariant-loop-i

@@ -1,9 +1,5 @@
 -- The invariant: what was counted and what is left are all.
 -- Assumes nothing.
-use Prim.Native.Nat.{◌+◌, ◌-◌, ◌≤◌}
-use mathlib.Core.Path.{◌≡◌}
-use lib.ListN.{length, drop}
-use Rattle.texts.specs.Fields.{occurs}
 use Rattle.texts.proofs.FieldLaws.{count_hit, count_miss, count_end}
 use borrow.Author.Tests.{eq-eqb, ne_eqb}
 use borrow.Author.Rules.{rules}

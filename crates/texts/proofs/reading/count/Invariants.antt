@@ -4,8 +4,6 @@ use Prim.Native.Nat.{◌+◌, ◌-◌, ◌≤◌}
 use mathlib.Core.Path.{◌≡◌}
 use lib.ListN.{length, drop}
 use Rattle.texts.specs.Fields.{occurs}
-use Rattle.texts.proofs.FieldLaws.{count_hit, count_miss, count_end}
-use borrow.Author.Rules.{rules}
 use Rattle.texts.proofs.reading.count.Given as goal
 
 abbrev pub invariant-loop-i : goal.invariant-loop-i

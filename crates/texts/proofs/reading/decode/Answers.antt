@@ -1,10 +1,8 @@
 -- One law for each way; the test that decides is the same in the code and in the definition.
 -- Assumes nothing.
 use native.Mathlib.Omega.{arith}
-use borrow.Author.Tests.{not-true, not-false}
 use Rattle.io.proofs.Counting.{prefix_len_of_le}
 use Rattle.texts.proofs.HexLaws.{decode_none, decode_one, decode_wrong, decode_right, decode_fits}
-use borrow.Author.Rules.{rules}
 use Rattle.texts.proofs.reading.decode.Goals as goal
 
 pub returns-then-n-eq0-clause-within : goal.returns-then-n-eq0-clause-within

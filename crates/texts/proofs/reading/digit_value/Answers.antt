@@ -2,7 +2,6 @@
 -- Assumes nothing.
 use native.Mathlib.Omega.{arith}
 use Rattle.texts.proofs.HexLaws.{digit_low, digit_is, digit_high}
-use borrow.Author.Rules.{rules}
 use Rattle.texts.proofs.reading.digit_value.Goals as goal
 
 pub returns-then-byte-lt48-clause-value : goal.returns-then-byte-lt48-clause-value

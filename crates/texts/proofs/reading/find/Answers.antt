@@ -1,9 +1,6 @@
 -- The invariant: the byte was not met from the first place up to this one.
 -- Assumes nothing.
-use Prim.Native.Nat.{◌-◌}
-use lib.ListN.{length}
-use Rattle.texts.proofs.FieldLaws.{Seeking, seek_none, seek_on, seek_found, seek_end}
-use borrow.Author.Rules.{rules}
+use Rattle.texts.proofs.FieldLaws.{seek_none, seek_on, seek_found, seek_end}
 use Rattle.texts.proofs.reading.find.Goals as goal
 
 pub loop-at-init : goal.loop-at-init

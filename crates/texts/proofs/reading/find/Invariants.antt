@@ -2,8 +2,7 @@
 -- Assumes nothing.
 use Prim.Native.Nat.{◌-◌}
 use lib.ListN.{length}
-use Rattle.texts.proofs.FieldLaws.{Seeking, seek_none, seek_on, seek_found, seek_end}
-use borrow.Author.Rules.{rules}
+use Rattle.texts.proofs.FieldLaws.{Seeking}
 use Rattle.texts.proofs.reading.find.Given as goal
 
 abbrev pub invariant-loop-at : goal.invariant-loop-at

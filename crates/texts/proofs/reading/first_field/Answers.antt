@@ -1,7 +1,6 @@
 -- What stands before the place of the first space.
 -- Assumes nothing.
 use Rattle.texts.proofs.FieldLaws.{first_part}
-use borrow.Author.Rules.{rules}
 use Rattle.texts.proofs.reading.first_field.Goals as goal
 
 pub returns : goal.returns

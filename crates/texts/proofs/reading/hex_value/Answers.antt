@@ -2,7 +2,6 @@
 -- Assumes nothing.
 use native.Mathlib.Omega.{arith}
 use Rattle.texts.proofs.HexLaws.{hex_low, hex_figure, hex_middle, hex_letter, hex_high}
-use borrow.Author.Rules.{rules}
 use Rattle.texts.proofs.reading.hex_value.Goals as goal
 
 pub returns-then-byte-lt48-clause-value : goal.returns-then-byte-lt48-clause-value

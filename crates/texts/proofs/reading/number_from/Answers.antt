@@ -1,6 +1,5 @@
 -- One test decides, the same in the code and in the definition.
 -- Assumes nothing.
-use borrow.Author.Rules.{rules}
 use Rattle.texts.proofs.reading.number_from.Goals as goal
 
 pub returns-then-x-y : goal.returns-then-x-y

@@ -1,7 +1,6 @@
 -- What stands behind the place of the first space; nothing where there is none.
 -- Assumes nothing.
 use Rattle.texts.proofs.FieldLaws.{rest_part, no_rest}
-use borrow.Author.Rules.{rules}
 use Rattle.texts.proofs.reading.other_fields.Goals as goal
 
 pub returns-then-end-line : goal.returns-then-end-line

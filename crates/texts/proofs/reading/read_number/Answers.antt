@@ -2,7 +2,6 @@
 -- Assumes nothing.
 use mathlib.Core.Path.{sym}
 use Rattle.texts.proofs.FieldLaws.{number_one, number_two, number_three, number_none}
-use borrow.Author.Rules.{rules}
 use Rattle.texts.proofs.reading.read_number.Goals as goal
 
 pub returns-then-n-eq1 : goal.returns-then-n-eq1

@@ -1,10 +1,6 @@
 -- The invariant: with the bytes that are left the buffer is as it is to be.
 -- Assumes nothing.
-use Prim.Native.Nat.{◌-◌, ◌*◌, ◌/◌, ◌≤◌}
-use mathlib.Core.Path.{◌≡◌, refl, ◌∙◌}
-use lib.ListN.{length, drop}
-use lib.Seq.{sets}
-use Rattle.texts.specs.Fields.{hex_bytes}
+use mathlib.Core.Path.{refl, ◌∙◌}
 use Rattle.texts.proofs.HexLaws.{unpack_on, unpack_end}
 use borrow.Author.Rules.{rules}
 use Rattle.texts.proofs.reading.unpack.Goals as goal

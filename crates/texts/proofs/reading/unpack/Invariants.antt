@@ -1,12 +1,10 @@
 -- The invariant: with the bytes that are left the buffer is as it is to be.
 -- Assumes nothing.
 use Prim.Native.Nat.{◌-◌, ◌*◌, ◌/◌, ◌≤◌}
-use mathlib.Core.Path.{◌≡◌, refl, ◌∙◌}
+use mathlib.Core.Path.{◌≡◌}
 use lib.ListN.{length, drop}
 use lib.Seq.{sets}
 use Rattle.texts.specs.Fields.{hex_bytes}
-use Rattle.texts.proofs.HexLaws.{unpack_on, unpack_end}
-use borrow.Author.Rules.{rules}
 use Rattle.texts.proofs.reading.unpack.Given as goal
 
 abbrev pub invariant-loop-i : goal.invariant-loop-i

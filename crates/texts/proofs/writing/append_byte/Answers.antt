@@ -1,6 +1,5 @@
 -- With room the byte is stored, past the end nothing is.
 -- Assumes nothing.
-use borrow.Author.Rules.{rules}
 use Rattle.texts.proofs.Appending.{appended_one, appended_past}
 use Rattle.texts.proofs.writing.append_byte.Goals as goal
 

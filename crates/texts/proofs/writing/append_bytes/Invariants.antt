@@ -1,11 +1,9 @@
 -- The invariant: the first i bytes are appended. A turn appends one more.
 -- Assumes nothing.
 use Prim.Native.Nat.{◌≤◌, ◌-◌}
-use mathlib.Core.Path.{◌≡◌, ◌∙◌}
+use mathlib.Core.Path.{◌≡◌}
 use lib.ListN.{length, take}
-use borrow.Author.Rules.{rules}
 use Rattle.texts.specs.Texts.{Appended}
-use Rattle.texts.proofs.Appending.{appended_none, appended_next, appended_all}
 use Rattle.texts.proofs.writing.append_bytes.Given as goal
 
 abbrev pub invariant-loop-i : goal.invariant-loop-i

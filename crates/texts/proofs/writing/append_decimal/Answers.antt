@@ -4,7 +4,6 @@ use native.Mathlib.Omega.{arith}
 use mathlib.Core.Path.{◌∙◌}
 use Rattle.texts.proofs.Appending.{appended_same}
 use Rattle.texts.proofs.Decimals.{decimal_digits}
-use borrow.Author.Rules.{rules}
 use Rattle.texts.proofs.writing.append_decimal.Goals as goal
 
 pub returns : goal.returns

@@ -1,9 +1,7 @@
 -- The invariant: the digits of the first i bytes are appended. A turn appends those of one more.
 -- Assumes nothing.
-use Prim.Native.Nat.{◌-◌, ◌≤◌}
-use mathlib.Core.Path.{◌≡◌, ◌∙◌}
-use lib.ListN.{length, take}
-use Rattle.texts.specs.Texts.{Appended, hex_text}
+use mathlib.Core.Path.{◌∙◌}
+use Rattle.texts.specs.Texts.{hex_text}
 use Rattle.texts.proofs.Appending.{appended_none, appended_hex, appended_all_hex}
 use borrow.Author.Rules.{rules}
 use Rattle.texts.proofs.writing.append_hex.Goals as goal

@@ -1,11 +1,9 @@
 -- The invariant: the digits of the first i bytes are appended. A turn appends those of one more.
 -- Assumes nothing.
 use Prim.Native.Nat.{◌-◌, ◌≤◌}
-use mathlib.Core.Path.{◌≡◌, ◌∙◌}
+use mathlib.Core.Path.{◌≡◌}
 use lib.ListN.{length, take}
 use Rattle.texts.specs.Texts.{Appended, hex_text}
-use Rattle.texts.proofs.Appending.{appended_none, appended_hex, appended_all_hex}
-use borrow.Author.Rules.{rules}
 use Rattle.texts.proofs.writing.append_hex.Given as goal
 
 abbrev pub invariant-loop-i : goal.invariant-loop-i

@@ -1,7 +1,6 @@
 -- Two digits, one behind the other.
 -- Assumes nothing.
 use Rattle.texts.proofs.Appending.{appended_pair}
-use borrow.Author.Rules.{rules}
 use Rattle.texts.proofs.writing.append_hex_byte.Goals as goal
 
 pub returns : goal.returns

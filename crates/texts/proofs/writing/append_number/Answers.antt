@@ -1,7 +1,6 @@
 -- The space, and the digits behind it.
 -- Assumes nothing.
 use Rattle.texts.proofs.Appending.{appended_then}
-use borrow.Author.Rules.{rules}
 use Rattle.texts.proofs.writing.append_number.Goals as goal
 
 pub returns : goal.returns
