@@ -2,6 +2,7 @@
 // once to count the bytes of the commands sent and once to write them; where each state led is kept, so that a phase that loops runs no
 // action clause again.
 #![tactic(auto)]
+
 ghost use Rattle.std.specs.Prelude.{◌≡◌, ◌+◌, ◌<◌};
 ghost use Rattle.records.specs.Bytes.{in_fours};
 ghost use Rattle.bodies.specs.Clauses.{first_action, action_count, action_command};

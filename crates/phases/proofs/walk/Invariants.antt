@@ -1,0 +1,14 @@
+-- `walk`: the invariant, `Walking`, says what is known before each turn.
+-- Assumes nothing.
+use borrow.Author.Rules.{rules}
+use Prim.Native.Nat.{◌-◌, ◌≤◌}
+use native.Mathlib.Omega.{arith}
+use mathlib.Core.Path.{refl, ◌∙◌}
+use Rattle.phases.proofs.WalkLaws.{Walking, inside_same, few, walking_start, walking_known, walking_moves, walk_settles, walk_loops}
+use Rattle.phases.proofs.walk.Given as goal
+
+abbrev pub invariant-loop-moves : goal.invariant-loop-moves
+invariant-loop-moves l = Walking l.sheet l.list l.initial.at.0 l.most l.initial.out l.to l.at.0 l.moves l.end l.out
+
+abbrev pub decreases-loop-moves : goal.decreases-loop-moves
+decreases-loop-moves l = l.most - l.moves
