@@ -9,7 +9,7 @@ use mathlib.Core.Option.{Option, some}
 use lib.Dec.{eqb}
 use borrow.Author.Tests.{eqb-true}
 use Rattle.model.specs.Words.{choose, maybe}
-use Rattle.grammar.specs.Grammar.{Token, fixed, name, Name, class_word, state_word, action_word, top_word, all_word, when_word, move_word, do_word, stay_word, if_word, then_word, else_word, and_word, or_word, not_word, open_word, close_word, left_word, comma_word, end_word, Row, none, ◌then◌, kin, single, braces, Guard, Conj, Operand, not, brackets, stay, When, Part, Action, Text, row_words, kin_words, names_words, set_words, quantifier_word, side_word, guard_words, conj_words, operand_words, referrer_words, when_words, part_words, action_words, state_words, text_words}
+use Rattle.grammar.specs.Grammar.{Token, fixed, name, Name, class_word, state_word, action_word, top_word, all_word, when_word, move_word, do_word, stay_word, if_word, then_word, else_word, and_word, or_word, not_word, open_word, close_word, left_word, comma_word, end_word, Row, none, ◌then◌, single, braces, Guard, Conj, Operand, not, brackets, stay, When, Part, Action, Text, row_words, kin_words, names_words, set_words, quantifier_word, side_word, guard_words, conj_words, operand_words, referrer_words, when_words, part_words, action_words, state_words, text_words}
 use Rattle.grammar.specs.Machine.{Within, list_of, body, then_part, else_part, Owner, a_when, an_if, guard_in, owned, bracket, conj_in, first, after_or, operand_in, first_of, after_and, after_not, atom_in, At, start, class_read, top_read, class_named, state_read, in_whens, operand_wanted, kin_wanted, side_wanted, set_wanted, left_read, comma_read, names_read, operand_read, move_read, do_read, stay_read, action_read, statements, send_read, command_read, send_all_read, go_read, finished, Move, on, on_name, filled, outer, whole, owner_moves, closing_moves, action_moves, when_moves, ending_moves, atom_of, moves, answer, next, read, refused, end_of, reads}
 
 pub clash : ◌≡◌ {A = ℕ} 0 1 → ⊥

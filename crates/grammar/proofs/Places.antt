@@ -3,7 +3,7 @@
 use mathlib.Core.Path.{◌≡◌, refl, sym, ◌∙◌}
 use mathlib.Core.List.{List, [], ◌∷◌}
 use mathlib.Core.Option.{Option}
-use Rattle.grammar.specs.Grammar.{Token, fixed, name, Name, class_word, state_word, top_word, any_word, all_word, stay_word, then_word, endif_word, in_word, children_word, close_word, right_word, end_word, Row, none, ◌then◌, Kin, children, kin, Names, one, more, single, braces, Quantifier, any, inside, Guard, just, or, Conj, only, and, Operand, not, brackets, move_to, run, stay, stay_in, When, Part, nothing, send, go_to, if_then, if_else, State, Text, referrer_words}
+use Rattle.grammar.specs.Grammar.{Token, fixed, name, Name, class_word, state_word, top_word, any_word, all_word, stay_word, then_word, endif_word, in_word, children_word, close_word, right_word, end_word, Row, none, ◌then◌, Kin, children, Names, one, more, single, braces, Quantifier, any, inside, Guard, just, or, Conj, only, and, Operand, not, brackets, move_to, run, stay, stay_in, When, Part, nothing, send, go_to, if_then, if_else, State, Text, referrer_words}
 use Rattle.grammar.specs.Machine.{Within, list_of, body, then_part, else_part, Owner, a_when, an_if, guard_in, owned, bracket, conj_in, first, after_or, operand_in, first_of, after_and, after_not, atom_in, At, start, class_read, top_read, class_named, state_read, in_whens, operand_wanted, kin_wanted, side_wanted, set_wanted, left_read, comma_read, names_read, operand_read, move_read, do_read, stay_read, action_read, statements, send_read, command_read, send_all_read, go_read, finished, filled, state_of, atom_of, moves, next, read, refused, end_of, reads}
 use Rattle.grammar.proofs.Machine.{clash}
 use Rattle.grammar.proofs.Complete.{steps, guard_read, close_run, then_run, referrer_run}
