@@ -1,5 +1,6 @@
 // How large the sheet of a text is, counted by its words: what the limits are asked of, before anything is written.
 #![tactic(auto)]
+
 ghost use Rattle.std.specs.Prelude.{◌≡◌, ◌<◌, max};
 ghost use Rattle.sizes.specs.Counting.{tick, untick, of_guard, of_statement, acting_after, open_after, raised, counted, Below};
 ghost use Rattle.sizes.specs.Sized.{Sized};
