@@ -1,6 +1,5 @@
 -- The two tests are the rule's.
 -- Assumes nothing.
-use borrow.Author.Rules.{rules}
 use Rattle.bodies.proofs.checks.action_ok.Goals as goal
 
 pub returns : goal.returns

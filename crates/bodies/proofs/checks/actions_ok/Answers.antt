@@ -1,6 +1,5 @@
 -- The two checks and the sum are the rule's.
 -- Assumes nothing.
-use borrow.Author.Rules.{rules}
 use Rattle.bodies.specs.BodyRules.{actions_right}
 use Rattle.bodies.proofs.checks.actions_ok.Goals as goal
 

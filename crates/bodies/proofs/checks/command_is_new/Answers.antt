@@ -1,13 +1,8 @@
 -- The invariant: the command is none of the first j from the state's first on. A turn looks at one more.
 -- Assumes nothing.
-use Prim.Native.Nat.{◌≤◌, ◌+◌, ◌-◌}
-use mathlib.Core.Path.{◌≡◌, sym, ◌∙◌}
-use mathlib.Core.Bool.{true, not}
-use lib.Dec.{eqb}
+use mathlib.Core.Path.{sym, ◌∙◌}
 use borrow.Author.Rules.{rules}
-use Rattle.model.specs.Words.{each}
 use Rattle.model.proofs.Words.{each_none, each_so_far, each_all, each_broken}
-use Rattle.bodies.specs.Clauses.{action_command}
 use Rattle.bodies.specs.BodyRules.{new_command}
 use Rattle.bodies.proofs.CheckLaws.{differ, differ_not}
 use Rattle.bodies.proofs.checks.command_is_new.Goals as goal

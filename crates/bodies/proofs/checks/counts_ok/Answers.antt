@@ -1,6 +1,5 @@
 -- The two sums are the rule's.
 -- Assumes nothing.
-use borrow.Author.Rules.{rules}
 use Rattle.bodies.specs.BodyRules.{counts_right}
 use Rattle.bodies.proofs.checks.counts_ok.Goals as goal
 

@@ -1,12 +1,9 @@
 -- The invariant: the guards of the first w when clauses read. A turn looks at one more.
 -- Assumes nothing.
-use Prim.Native.Nat.{ℕ, ◌≤◌, ◌-◌}
-use mathlib.Core.Path.{◌≡◌, sym, ◌∙◌, ap}
-use mathlib.Core.Bool.{true}
+use Prim.Native.Nat.{ℕ}
+use mathlib.Core.Path.{sym, ◌∙◌, ap}
 use borrow.Author.Rules.{rules}
-use Rattle.model.specs.Words.{each}
 use Rattle.model.proofs.Words.{each_none, each_so_far, each_all, each_broken, passed, not_passed}
-use Rattle.bodies.specs.Clauses.{guard_place}
 use Rattle.records.specs.GuardRecords.{guard_from, is_read}
 use Rattle.bodies.specs.BodyRules.{guards_right}
 use mathlib.Core.Bool.{not}

@@ -1,15 +1,11 @@
 -- The invariant: the first i commands of the state are new. A turn looks at one more; the state's counts are those that the rule names.
 -- Assumes nothing.
-use Prim.Native.Nat.{ℕ, ◌≤◌, ◌-◌}
-use native.Mathlib.Omega.{arith}
-use mathlib.Core.Path.{◌≡◌, sym, ◌∙◌, ap}
+use Prim.Native.Nat.{◌≤◌, ◌-◌}
+use mathlib.Core.Path.{◌≡◌}
 use mathlib.Core.Bool.{true}
-use borrow.Author.Rules.{rules}
 use Rattle.model.specs.Words.{each}
-use Rattle.model.proofs.Words.{each_none, each_so_far, each_all, each_broken, passed, not_passed}
 use Rattle.bodies.specs.Clauses.{action_count, first_action}
-use Rattle.bodies.specs.BodyRules.{new_command, none_twice}
-use mathlib.Core.Bool.{not}
+use Rattle.bodies.specs.BodyRules.{new_command}
 use Rattle.bodies.proofs.checks.none_twice.Given as goal
 
 abbrev pub invariant-loop-i : goal.invariant-loop-i

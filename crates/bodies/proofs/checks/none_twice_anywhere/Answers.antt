@@ -1,12 +1,9 @@
 -- The invariant: no command stands twice in any of the first q states. A turn looks at one more.
 -- Assumes nothing.
-use Prim.Native.Nat.{◌≤◌, ◌-◌}
-use mathlib.Core.Path.{◌≡◌, sym}
-use mathlib.Core.Bool.{true}
+use mathlib.Core.Path.{sym}
 use borrow.Author.Rules.{rules}
-use Rattle.model.specs.Words.{each}
 use Rattle.model.proofs.Words.{each_none, each_so_far, each_all, each_broken, passed, not_passed}
-use Rattle.bodies.specs.BodyRules.{none_twice, commands_apart}
+use Rattle.bodies.specs.BodyRules.{commands_apart}
 use mathlib.Core.Path.{ap}
 use mathlib.Core.Bool.{not}
 use Rattle.bodies.proofs.checks.none_twice_anywhere.Goals as goal

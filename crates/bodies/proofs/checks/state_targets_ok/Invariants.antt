@@ -1,18 +1,12 @@
 -- The invariant: the first i targets of the state are right. A turn looks at one more; the state's counts are those that the rule names.
 -- Assumes nothing.
 use Prim.Native.Nat.{◌≤◌, ◌+◌, ◌-◌}
-use native.Mathlib.Omega.{arith}
-use mathlib.Core.Path.{◌≡◌, sym, ◌∙◌}
+use mathlib.Core.Path.{◌≡◌}
 use mathlib.Core.Bool.{true}
-use borrow.Author.Rules.{rules}
 use Rattle.model.specs.Words.{each}
-use Rattle.model.proofs.Words.{each_none, each_so_far, each_all, each_broken, passed, not_passed}
 use Rattle.bodies.specs.Clauses.{action_count, when_count, first_when}
 use Rattle.records.specs.Bytes.{in_fours}
-use Rattle.bodies.specs.BodyRules.{target_right, state_targets_right}
-use Rattle.bodies.proofs.CheckLaws.{target_in}
-use mathlib.Core.Path.{ap}
-use mathlib.Core.Bool.{not}
+use Rattle.bodies.specs.BodyRules.{target_right}
 use Rattle.bodies.proofs.checks.state_targets_ok.Given as goal
 
 abbrev pub invariant-loop-i : goal.invariant-loop-i

@@ -1,12 +1,8 @@
 -- The invariant: the statements of the first a action clauses read as parts. A turn looks at one more.
 -- Assumes nothing.
-use Prim.Native.Nat.{◌≤◌, ◌-◌}
-use mathlib.Core.Path.{◌≡◌, sym, ◌∙◌}
-use mathlib.Core.Bool.{true}
+use mathlib.Core.Path.{sym, ◌∙◌}
 use borrow.Author.Rules.{rules}
-use Rattle.model.specs.Words.{is_some, each}
 use Rattle.model.proofs.Words.{each_none, each_so_far, each_all, each_broken, passed, not_passed}
-use Rattle.bodies.specs.Clauses.{body_of}
 use Rattle.records.specs.Bytes.{in_fours}
 use Rattle.bodies.specs.BodyRules.{statements_right}
 use Rattle.bodies.proofs.StatementLaws.{body_reads}

@@ -1,6 +1,5 @@
 -- The rule for a target goes by the referrer; each number has its law.
 -- Assumes nothing.
-use borrow.Author.Rules.{rules}
 use Rattle.bodies.proofs.CheckLaws.{target_move, target_run, target_stay}
 use Rattle.bodies.proofs.checks.target_ok.Goals as goal
 

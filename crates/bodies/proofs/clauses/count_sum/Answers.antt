@@ -1,6 +1,5 @@
 -- The invariant: the sum is that of the counts of the first i records. Each turn adds one count.
 -- Assumes nothing.
-use Prim.Native.Nat.{◌≤◌, ◌*◌, ◌-◌}
 use native.Mathlib.Omega.{arith}
 use mathlib.Core.Path.{◌≡◌, ◌∙◌, ap}
 use borrow.Author.Rules.{rules}

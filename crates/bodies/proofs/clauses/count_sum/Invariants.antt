@@ -1,11 +1,8 @@
 -- The invariant: the sum is that of the counts of the first i records. Each turn adds one count.
 -- Assumes nothing.
 use Prim.Native.Nat.{◌≤◌, ◌*◌, ◌-◌}
-use native.Mathlib.Omega.{arith}
-use mathlib.Core.Path.{◌≡◌, ◌∙◌, ap}
-use borrow.Author.Rules.{rules}
+use mathlib.Core.Path.{◌≡◌}
 use Rattle.bodies.specs.Clauses.{count_sum}
-use Rattle.bodies.proofs.CheckLaws.{sum_none, sum_next}
 use Rattle.bodies.proofs.clauses.count_sum.Given as goal
 
 abbrev pub invariant-loop-i : goal.invariant-loop-i

@@ -1,6 +1,5 @@
 -- Each number of a referrer has its law.
 -- Assumes nothing.
-use borrow.Author.Rules.{rules}
 use Rattle.bodies.proofs.CheckLaws.{referrer_move, referrer_run, referrer_stay}
 use Rattle.bodies.proofs.clauses.referrer_at.Goals as goal
 

@@ -3,11 +3,8 @@
 -- Assumes nothing.
 -- what `part-ok` is given at the measure t, and what a call of it asks below t
 -- what `statement-ok` is given at the measure t, and what a call of it asks below t
-use borrow.Author.Rules.{rules}
-use Prim.Native.Nat.{ℕ, ◌+◌, ◌*◌, ◌<◌}
 use native.Mathlib.Omega.{arith}
 use mathlib.Core.Path.{sym, ◌∙◌}
-use lib.ListN.{length}
 use Rattle.model.proofs.Words.{passed, not_passed}
 use Rattle.bodies.proofs.ReaderLaws.{behind_falls, parts_fall}
 use Rattle.bodies.proofs.PartLaws.{right_empty, right_cut, right_broken, right_goes_on}

@@ -3,17 +3,8 @@
 -- Assumes nothing.
 -- what `part-ok` is given at the measure t, and what a call of it asks below t
 -- what `statement-ok` is given at the measure t, and what a call of it asks below t
-use borrow.Author.Rules.{rules}
-use Prim.Native.Nat.{ℕ, ◌+◌, ◌*◌, ◌<◌}
-use native.Mathlib.Omega.{arith}
-use mathlib.Core.Path.{sym, ◌∙◌}
+use Prim.Native.Nat.{◌+◌, ◌*◌}
 use lib.ListN.{length}
-use Rattle.model.proofs.Words.{passed, not_passed}
-use Rattle.bodies.proofs.ReaderLaws.{behind_falls, parts_fall}
-use Rattle.bodies.proofs.PartLaws.{right_empty, right_cut, right_broken, right_goes_on}
-use Rattle.bodies.proofs.StatementLaws.{right_do, right_move, right_unknown, right_not_zero, right_too_deep, right_if}
-use mathlib.Core.Path.{ap}
-use mathlib.Core.Bool.{not}
 use Rattle.bodies.proofs.statements.+part_ok_statement_ok.Given as goal
 
 abbrev pub decreases-part_ok : goal.decreases-part_ok

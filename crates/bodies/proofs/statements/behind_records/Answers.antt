@@ -1,6 +1,5 @@
 -- The cut is inside the list, or nothing is left behind it.
 -- Assumes nothing.
-use borrow.Author.Rules.{rules}
 use Rattle.bodies.proofs.ReaderLaws.{behind_inside, behind_nothing}
 use Rattle.bodies.proofs.statements.behind_records.Goals as goal
 

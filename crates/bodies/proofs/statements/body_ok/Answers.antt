@@ -1,6 +1,5 @@
 -- `body_ok` is `part_ok` at 8 ifs.
 -- Assumes nothing.
-use borrow.Author.Rules.{rules}
 use Rattle.bodies.proofs.statements.body_ok.Goals as goal
 
 pub returns : goal.returns

@@ -1,6 +1,5 @@
 -- Every part of the test is what its reader ensures.
 -- Assumes nothing.
-use borrow.Author.Rules.{rules}
 use Rattle.bodies.proofs.statements.do_ok.Goals as goal
 
 pub returns : goal.returns

@@ -1,6 +1,5 @@
 -- The cut is inside the list, or the list has no more records.
 -- Assumes nothing.
-use borrow.Author.Rules.{rules}
 use Rattle.bodies.proofs.ReaderLaws.{first_inside, first_all}
 use Rattle.bodies.proofs.statements.first_records.Goals as goal
 

@@ -1,6 +1,5 @@
 -- Only an if has parts.
 -- Assumes nothing.
-use borrow.Author.Rules.{rules}
 use Rattle.bodies.proofs.statements.records_beside.Goals as goal
 
 pub returns-in-If-clause-count : goal.returns-in-If-clause-count

@@ -3,7 +3,6 @@
 use Prim.Native.Nat.{◌*◌}
 use mathlib.Core.Path.{◌∙◌, ap}
 use lib.ListN.{take}
-use borrow.Author.Rules.{rules}
 use Rattle.bodies.proofs.statements.records_from.Goals as goal
 
 pub returns : goal.returns

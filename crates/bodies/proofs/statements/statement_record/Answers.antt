@@ -1,6 +1,5 @@
 -- The record goes by the kind: a law for each way out.
 -- Assumes nothing.
-use borrow.Author.Rules.{rules}
 use Rattle.bodies.proofs.ReaderLaws.{record_none, record_do, record_move, record_if, record_unknown}
 use Rattle.bodies.proofs.statements.statement_record.Goals as goal
 

@@ -3,7 +3,6 @@
 use Prim.Native.Nat.{ℕ}
 use mathlib.Core.Path.{◌∙◌, ap₂}
 use Rattle.records.specs.Bytes.{records_from}
-use borrow.Author.Rules.{rules}
 use Rattle.bodies.proofs.statements.statements_of.Goals as goal
 
 pub returns : goal.returns
