@@ -126,7 +126,7 @@ module _ (r : Commanded) where
   -- by what the phase answers on the buffer behind the command's own bytes
   module _ (out rest last : List ℕ) (fits : length own ≤ length out) (is_rest : rest ≡ drop (length own) out) where
     room_behind : length rest + length own ≡ length out
-    room_behind = omega (arith, ap length is-rest, length-drop (length own) out)
+    room_behind = omega (arith, ap length is_rest, length-drop (length own) out)
 
     pub refused_behind : (x : Refusal) (after : List ℕ) → PhasedSo r.phase rest last (W.Refused x) → after ≡ out → CommandedSo r out after (Refused x)
     refused_behind x after p same =

@@ -1,6 +1,7 @@
 // The handling of a command, and the when phase behind it. The command's action clause is run once to count its bytes and once to write
 // them; the phase has the buffer behind them.
 #![tactic(auto)]
+
 ghost use Rattle.std.specs.Prelude.{◌≡◌, ◌<◌};
 ghost use Rattle.records.specs.Bytes.{in_fours};
 ghost use Rattle.sheet.specs.Contents.{body};

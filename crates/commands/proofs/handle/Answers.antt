@@ -1,0 +1,25 @@
+-- `handle`: the command is run on no buffer, to count; the phase is asked on the buffer behind its bytes; then the command is run on the front.
+-- Assumes nothing.
+-- the run that counts leaves the buffer as it was
+use mathlib.Core.Path.{◌≡◌, refl, ap}
+use mathlib.Core.List.{◌++◌}
+use borrow.Author.Rules.{rules}
+use Rattle.running.proofs.SendLaws.{none_before}
+use Rattle.commands.proofs.HandleLaws.{left_inside}
+use Rattle.commands.proofs.BehindLaws.{short_told, refused_told, given_told}
+use Rattle.commands.proofs.handle.Goals as goal
+
+pub returns-then-out-own : goal.returns-then-out-own
+returns-then-out-own c = short_told _ _ _ _ _ _ _ c.run_command-counted.ensures _ _ (none_before c.run_command-counted.new.out _ c.run_command-counted.auto.out) _ c.own_bytes-own.ensures c.if-out-own.true
+
+pub when_phase-behind-requires-clause-stands : goal.when_phase-behind-requires-clause-stands
+when_phase-behind-requires-clause-stands c = c.requires.stands
+
+pub when_phase-behind-requires-clause-q_bound : goal.when_phase-behind-requires-clause-q_bound
+when_phase-behind-requires-clause-q_bound c = left_inside c.args.sheet.now _ _ _ c.requires.q_bound _ _ _ c.run_command-counted.ensures _ c.left_by.ensures
+
+pub returns-in-Refused : goal.returns-in-Refused
+returns-in-Refused c = refused_told _ _ _ _ _ _ _ c.run_command-counted.ensures _ _ (none_before c.run_command-counted.new.out _ c.run_command-counted.auto.out) _ c.own_bytes-own.ensures _ (ap (λ q. q.0) c.left_by.ensures) c.if-out-own.false _ _ refl _ c.when_phase-behind.ensures _ c.in-Refused.is
+
+pub returns-in-Given : goal.returns-in-Given
+returns-in-Given c = given_told _ _ _ _ _ _ _ c.run_command-counted.ensures _ _ (none_before c.run_command-counted.new.out _ c.run_command-counted.auto.out) _ c.own_bytes-own.ensures _ (ap (λ q. q.0) c.left_by.ensures) c.if-out-own.false _ _ refl _ c.when_phase-behind.ensures _ c.in-Given.is _ _ _ refl c.run_command-handling.ensures
