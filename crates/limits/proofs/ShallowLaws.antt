@@ -1,18 +1,17 @@
 -- The loop over guards, and that it tells the limit of operators.
 -- Assumes nothing.
-use Prim.Native.Nat.{ℕ, zero, suc, ◌+◌, ◌-◌, ◌*◌, ◌/◌, ◌<◌, ◌≤◌}
+use Prim.Native.Nat.{ℕ, zero, suc, ◌+◌, ◌-◌, ◌/◌, ◌<◌, ◌≤◌}
 use native.Mathlib.Omega.{arith}
-use mathlib.Core.Path.{◌≡◌, refl, sym, ◌∙◌, ap, subst}
+use mathlib.Core.Path.{◌≡◌, refl, ◌∙◌, ap}
 use mathlib.Core.Bool.{Bool, true, false, ◌&&◌}
 use mathlib.Core.List.{List, [], ◌∷◌, ◌++◌}
-use lib.Dec.{ltb, leb}
+use lib.Dec.{leb}
 use lib.ListN.{length, length-append}
-use borrow.Author.Tests.{lt-ltb, le-ltb, leb-true, leb-false, le-leb, lt-leb}
-use Rattle.model.specs.Words.{choose, every}
+use borrow.Author.Tests.{lt-ltb, le-ltb, leb-true, leb-false}
+use Rattle.model.specs.Words.{every}
 use Rattle.model.specs.Tree.{Guard, atom, both, either, opposite}
 use Rattle.records.specs.GuardRecords.{Read, got, broken, guard_at, guard_from, by_read}
 use Rattle.records.specs.Ends.{end_of}
-use Rattle.records.specs.declared.guards.End.{End}
 use Rattle.records.specs.declared.guards.End.TheVariants.{At, Broken}
 use Rattle.records.proofs.GuardLaws.{read_behind, end_got}
 use Rattle.encoding.specs.Records.{Eight, eights}

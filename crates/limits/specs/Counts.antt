@@ -2,7 +2,7 @@
 -- Assumes nothing.
 use Rattle.std.specs.Prelude.{ℕ, ◌/◌, ◌<◌, ◌^◌, ◌≡◌, Bool, true, ◌&&◌, List, leb, ltb, length}
 use Rattle.model.specs.Words.{every}
-use Rattle.naming.specs.NameLists.{Lists, lists_within, class_sets}
+use Rattle.naming.specs.NameLists.{Lists, lists_within}
 use Rattle.lists.specs.Lent.{sets_in}
 use Rattle.encoding.specs.Numbers.{Every}
 use Rattle.sizes.specs.declared.Sizes.{Sizes}

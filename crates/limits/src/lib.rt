@@ -1,5 +1,6 @@
 // The limits of a class, tested in code.
 #![tactic(auto)]
+
 ghost use Rattle.std.specs.Prelude.{◌≡◌, ◌<◌};
 ghost use Rattle.lists.specs.Lent.{lent};
 ghost use Rattle.limits.specs.Shallow.{shallow};
