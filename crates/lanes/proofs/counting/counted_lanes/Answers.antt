@@ -1,9 +1,7 @@
 -- `counted_lanes`: the lanes in which the present classes among the first i have a child.
 -- Assumes nothing.
-use borrow.Author.Rules.{rules}
 use borrow.Author.Tests.{eq-eqb, ne_eqb}
-use Prim.Native.Nat.{◌-◌}
-use Rattle.lanes.proofs.CountingLaws.{CountedLanes, lanes_start, lanes_more, lanes_past, lanes_end}
+use Rattle.lanes.proofs.CountingLaws.{lanes_start, lanes_more, lanes_past, lanes_end}
 use Rattle.lanes.proofs.counting.counted_lanes.Goals as goal
 
 pub loop-i-init : goal.loop-i-init

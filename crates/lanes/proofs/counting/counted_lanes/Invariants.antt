@@ -1,8 +1,7 @@
 -- `counted_lanes`: the lanes in which the present classes among the first i have a child.
 -- Assumes nothing.
-use borrow.Author.Rules.{rules}
 use Prim.Native.Nat.{◌-◌}
-use Rattle.lanes.proofs.CountingLaws.{CountedLanes, lanes_start, lanes_more, lanes_past, lanes_end}
+use Rattle.lanes.proofs.CountingLaws.{CountedLanes}
 use Rattle.lanes.proofs.counting.counted_lanes.Given as goal
 
 abbrev pub invariant-loop-i : goal.invariant-loop-i

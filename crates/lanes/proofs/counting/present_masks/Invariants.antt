@@ -1,10 +1,8 @@
 -- `present_masks`: the masks and low words of the first i classes.
 -- Assumes nothing.
-use borrow.Author.Rules.{rules}
 use Prim.Native.Nat.{◌-◌}
-use mathlib.Core.Path.{refl}
 use Rattle.configurations.specs.Cells.{cells_of}
-use Rattle.lanes.proofs.CountingLaws.{Counted, counted_start, counted_more, counted_end}
+use Rattle.lanes.proofs.CountingLaws.{Counted}
 use Rattle.lanes.proofs.counting.present_masks.Given as goal
 
 abbrev pub invariant-loop-i : goal.invariant-loop-i

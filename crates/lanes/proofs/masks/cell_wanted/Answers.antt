@@ -1,6 +1,5 @@
 -- `cell_wanted` meets its contract, pattern by pattern.
 -- Assumes nothing.
-use borrow.Author.Rules.{rules}
 use mathlib.Core.Path.{ap}
 use Rattle.records.specs.Patterns.{pattern_as}
 use Rattle.lanes.proofs.MaskLaws.{cell_everyone, cell_of_class}

@@ -1,12 +1,8 @@
 -- `cells_mask`: the mask of the cells from i on.
 -- Assumes nothing.
-use borrow.Author.Rules.{rules}
-use Prim.Native.Nat.{◌-◌}
 use native.Mathlib.Omega.{arith}
 use mathlib.Core.Path.{sym, ◌∙◌}
-use Rattle.records.specs.Patterns.{pattern_as}
-use Rattle.lanes.specs.Masks.{wanted}
-use Rattle.lanes.proofs.MaskLaws.{Masking, masking_small, masking_start, masking_held, masking_past, masking_end}
+use Rattle.lanes.proofs.MaskLaws.{masking_small, masking_start, masking_held, masking_past, masking_end}
 use Rattle.lanes.proofs.masks.cells_mask.Goals as goal
 
 pub loop-i-init : goal.loop-i-init

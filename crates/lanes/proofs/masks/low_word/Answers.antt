@@ -1,9 +1,7 @@
 -- `low_word`: the lanes that share one of the first j bits with the mask.
 -- Assumes nothing.
-use borrow.Author.Rules.{rules}
 use borrow.Author.Tests.{eq-eqb, ne_eqb}
-use Prim.Native.Nat.{◌-◌}
-use Rattle.lanes.proofs.MaskLaws.{Low, low_start, low_more, low_past, low_end}
+use Rattle.lanes.proofs.MaskLaws.{low_start, low_more, low_past, low_end}
 use Rattle.lanes.proofs.masks.low_word.Goals as goal
 
 pub loop-j-init : goal.loop-j-init

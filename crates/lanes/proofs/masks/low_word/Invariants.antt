@@ -1,8 +1,7 @@
 -- `low_word`: the lanes that share one of the first j bits with the mask.
 -- Assumes nothing.
-use borrow.Author.Rules.{rules}
 use Prim.Native.Nat.{◌-◌}
-use Rattle.lanes.proofs.MaskLaws.{Low, low_start, low_more, low_past, low_end}
+use Rattle.lanes.proofs.MaskLaws.{Low}
 use Rattle.lanes.proofs.masks.low_word.Given as goal
 
 abbrev pub invariant-loop-j : goal.invariant-loop-j

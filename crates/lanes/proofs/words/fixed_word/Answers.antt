@@ -1,6 +1,5 @@
 -- `fixed_word` meets its contract: each word of the table is checked lane by lane.
 -- Assumes nothing.
-use borrow.Author.Rules.{rules}
 use Rattle.lanes.proofs.LaneLaws.{fixed_lanes, fixed}
 use Rattle.lanes.proofs.words.fixed_word.Goals as goal
 

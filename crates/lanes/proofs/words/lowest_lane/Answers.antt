@@ -1,9 +1,7 @@
 -- `lowest_lane`: no lane below the one that is looked at.
 -- Assumes nothing.
-use borrow.Author.Rules.{rules}
-use Prim.Native.Nat.{◌-◌, ◌≤◌}
 use native.Mathlib.Omega.{arith}
-use Rattle.lanes.proofs.LaneLaws.{NoneBelow, none_more, lowest_here, lowest_none}
+use Rattle.lanes.proofs.LaneLaws.{none_more, lowest_here, lowest_none}
 use Rattle.lanes.proofs.words.lowest_lane.Goals as goal
 
 pub loop-i-init : goal.loop-i-init

@@ -1,6 +1,5 @@
 -- `word_at`: past the table there is 0.
 -- Assumes nothing.
-use borrow.Author.Rules.{rules}
 use mathlib.Core.Path.{sym}
 use lib.ListN.{get_or-eq_default}
 use Rattle.lanes.proofs.words.word_at.Goals as goal
