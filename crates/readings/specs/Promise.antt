@@ -1,6 +1,6 @@
 -- The answer in the code's terms: what a function that reads a class text promises.
 -- Assumes nothing.
-use Rattle.std.specs.Prelude.{ℕ, ◌≡◌, List}
+use Rattle.std.specs.Prelude.{ℕ, List}
 use Rattle.model.specs.Refusals.{number_of}
 use Rattle.model.specs.declared.ReadAnswer.{ReadAnswer}
 use Rattle.model.specs.declared.ReadAnswer.TheVariants.{Refused, WrongWord, Read}
