@@ -1,0 +1,13 @@
+-- `first_clauses`: the firsts of the states before q.
+-- Assumes nothing.
+use borrow.Author.Rules.{rules}
+use Prim.Native.Nat.{◌+◌, ◌-◌, ◌≤◌}
+use native.Mathlib.Omega.{arith}
+use Rattle.blocks.proofs.ClauseLaws.{FirstsTo, firsts_start, firsts_more, firsts_end}
+use Rattle.blocks.proofs.clauses.first_clauses.Given as goal
+
+abbrev pub invariant-loop-q : goal.invariant-loop-q
+invariant-loop-q l = (l.s ≤ 32) × FirstsTo l.states l.offset l.firsts l.q
+
+abbrev pub decreases-loop-q : goal.decreases-loop-q
+decreases-loop-q l = l.s + 1 - l.q
