@@ -1,9 +1,6 @@
 -- `fill_words`: from the last record down, each word is made of those behind it.
 -- Assumes nothing.
-use borrow.Author.Rules.{rules}
-use Prim.Native.Nat.{◌-◌, ◌≤◌}
 use native.Mathlib.Omega.{arith}
-use Rattle.truths.specs.Words.{Filled}
 use Rattle.truths.proofs.WordLaws.{filled_start, filled_more, filled_all}
 use Rattle.truths.proofs.filling.fill_words.Goals as goal
 

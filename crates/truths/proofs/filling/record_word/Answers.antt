@@ -1,6 +1,5 @@
 -- `record_word`: one answer for each way that a word is made.
 -- Assumes nothing.
-use borrow.Author.Rules.{rules}
 use native.Mathlib.Omega.{arith}
 use Rattle.truths.proofs.WordLaws.{word_met, word_unmet, word_both, word_either, word_opposite}
 use Rattle.truths.proofs.filling.record_word.Goals as goal

@@ -1,6 +1,5 @@
 -- `right_word`: the left operand's size is read before the word.
 -- Assumes nothing.
-use borrow.Author.Rules.{rules}
 use Rattle.truths.proofs.WordLaws.{word_there}
 use Rattle.truths.proofs.filling.right_word.Goals as goal
 

@@ -1,6 +1,5 @@
 -- `operator_size`: the sizes of the operands are read behind the operator.
 -- Assumes nothing.
-use borrow.Author.Rules.{rules}
 use mathlib.Core.Logic.{inl, inr}
 use Rattle.truths.proofs.PlanLaws.{size_two, size_one}
 use Rattle.truths.proofs.plans.operator_size.Goals as goal

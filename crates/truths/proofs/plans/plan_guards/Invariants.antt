@@ -1,11 +1,7 @@
 -- `plan_guards`: from the last record down, each is planned by those behind it.
 -- Assumes nothing.
-use borrow.Author.Rules.{rules}
-use Prim.Native.Nat.{◌+◌, ◌-◌}
-use native.Mathlib.Omega.{arith}
-use mathlib.Core.Path.{◌≡◌}
 use Rattle.configurations.specs.Cells.{cells_of}
-use Rattle.truths.proofs.PlanLaws.{Planning, record_short, planning_start, planning_more, planning_end}
+use Rattle.truths.proofs.PlanLaws.{Planning}
 use Rattle.truths.proofs.plans.plan_guards.Given as goal
 
 abbrev pub invariant-loop-i : goal.invariant-loop-i

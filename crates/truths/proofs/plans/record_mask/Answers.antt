@@ -1,6 +1,5 @@
 -- `record_mask`: an atom's mask is that of the cells that it looks at.
 -- Assumes nothing.
-use borrow.Author.Rules.{rules}
 use Rattle.truths.proofs.PlanLaws.{mask_told}
 use Rattle.truths.proofs.plans.record_mask.Goals as goal
 

@@ -1,6 +1,5 @@
 -- `record_size`: an operator's is its operands' and its own record.
 -- Assumes nothing.
-use borrow.Author.Rules.{rules}
 use Rattle.truths.proofs.PlanLaws.{size_told}
 use Rattle.truths.proofs.plans.record_size.Goals as goal
 
