@@ -4,11 +4,10 @@ use Prim.Native.Nat.{ℕ, ◌≤◌, ◌<◌, ◌^◌}
 use native.Mathlib.Omega.{arith}
 use mathlib.Core.Path.{◌≡◌, refl, ◌∙◌, ap}
 use mathlib.Core.Bool.{true, ◌&&◌}
-use mathlib.Core.List.{List, [], ◌∷◌}
+use mathlib.Core.List.{List, ◌∷◌}
 use lib.ListN.{length}
 use borrow.Author.Tests.{ltb-true, lt-ltb}
 use Rattle.model.specs.Words.{has}
-use Rattle.model.specs.Tree as M
 use Rattle.model.proofs.Words.{and_left, and_right}
 use Rattle.model.proofs.Bits.{has_none}
 use Rattle.grammar.specs.Grammar as G

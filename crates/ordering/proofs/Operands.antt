@@ -11,7 +11,6 @@ use lib.ListN.{length, length-append}
 use lib.Seq.{take-append_seam, drop-append_seam}
 use borrow.Author.Tests.{leb-false, le-leb, lt-leb, ne_eqb}
 use Rattle.model.specs.Words.{choose}
-use Rattle.model.specs.Tree as M
 use Rattle.model.proofs.Words.{and_left, and_right}
 use Rattle.grammar.specs.Grammar as G
 use Rattle.grammar.specs.Grammar.{Token, fixed, and_word, or_word, close_word, Kin, Set, Quantifier, Side, Guard, Conj, Operand, guard_words, conj_words, operand_words, kin_words, set_words, quantifier_word, side_word}

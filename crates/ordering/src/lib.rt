@@ -1,5 +1,6 @@
 // What a word is to the order of guard records.
 #![tactic(auto)]
+
 ghost use Rattle.std.specs.Prelude.{◌≡◌};
 ghost use Rattle.ordering.specs.Ordering.{mark_of};
 
