@@ -2,16 +2,15 @@
 -- gets shorter. `sweep_if` runs each part on the lanes that its guard chooses. With each call the bytes get fewer, but for the call of
 -- `sweep_if`, whose measure is one less on the same bytes.
 -- Assumes nothing.
-use borrow.Author.Rules.{rules}
-use Prim.Native.Nat.{ℕ, ◌+◌, ◌-◌, ◌*◌, ◌<◌}
+use Prim.Native.Nat.{◌-◌}
 use native.Mathlib.Omega.{arith}
-use mathlib.Core.Path.{◌≡◌, refl, sym, ap, ◌∙◌}
+use mathlib.Core.Path.{refl, sym, ap, ◌∙◌}
 use lib.ListN.{length, take, drop}
 use Rattle.bodies.specs.StatementReaders.{behind_statement}
 use Rattle.bodies.specs.declared.statements.StatementRecord.{StatementRecord}
 use Rattle.bodies.specs.declared.statements.StatementRecord.TheVariants.{Do, If}
 use Rattle.bodies.proofs.ReaderLaws.{told, parts_fall}
-use Rattle.sweeps.proofs.SweepLaws.{sweep_if as swept-if, Sweeping, sweeping_start, sweeping_end, sweeping_sent, sweeping_on, swept_go, swept_nothing, rest_short, behind_short, rest_falls}
+use Rattle.sweeps.proofs.SweepLaws.{sweep_if as swept-if, sweeping_start, sweeping_end, sweeping_sent, sweeping_on, swept_go, swept_nothing, rest_falls}
 use Rattle.sweeps.proofs.+sweep_if_sweep_list.Goals as goal
 
 pub sweep_if-sweep_list-first-requires : goal.sweep_if-sweep_list-first-requires

@@ -2,7 +2,7 @@
 -- gets shorter. `sweep_if` runs each part on the lanes that its guard chooses. With each call the bytes get fewer, but for the call of
 -- `sweep_if`, whose measure is one less on the same bytes.
 -- Assumes nothing.
-use Prim.Native.Nat.{ℕ, ◌+◌, ◌-◌, ◌*◌}
+use Prim.Native.Nat.{◌+◌, ◌-◌, ◌*◌}
 use lib.ListN.{length}
 use Rattle.sweeps.proofs.SweepLaws.{Sweeping}
 use Rattle.sweeps.proofs.+sweep_if_sweep_list.Given as goal

@@ -1,6 +1,5 @@
 -- `add_lanes`: the word has the lanes too; a target that is no state has no word.
 -- Assumes nothing.
-use borrow.Author.Rules.{rules}
 use native.Mathlib.Omega.{arith}
 use Rattle.sweeps.proofs.SweepLaws.{added, added_none}
 use Rattle.sweeps.proofs.add_lanes.Goals as goal
