@@ -1,5 +1,6 @@
 // The atom that stands behind a quantifier.
 #![tactic(auto)]
+
 ghost use Rattle.std.specs.Prelude.{◌≡◌, ◌<◌, ◌≤◌};
 ghost use Rattle.grammar.specs.Kinds.{token_as};
 ghost use Rattle.naming.specs.NameLists.{records_in, number_in};
