@@ -1,11 +1,8 @@
 -- `count_moves`: after n rounds the level has the lanes in which n moves can be made.
 -- Assumes nothing.
-use borrow.Author.Rules.{rules}
-use Prim.Native.Nat.{◌-◌}
 use native.Mathlib.Omega.{arith}
-use mathlib.Core.Path.{◌≡◌, refl}
-use lib.ListN.{length}
-use Rattle.arrows.proofs.LevelLaws.{Leveled, leveled_start, leveled_more, leveled_none, leveled_end}
+use mathlib.Core.Path.{refl}
+use Rattle.arrows.proofs.LevelLaws.{leveled_start, leveled_more, leveled_none, leveled_end}
 use Rattle.arrows.proofs.levels.count_moves.Goals as goal
 
 pub loop-n-init : goal.loop-n-init

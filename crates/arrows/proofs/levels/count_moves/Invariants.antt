@@ -1,11 +1,9 @@
 -- `count_moves`: after n rounds the level has the lanes in which n moves can be made.
 -- Assumes nothing.
-use borrow.Author.Rules.{rules}
 use Prim.Native.Nat.{◌-◌}
-use native.Mathlib.Omega.{arith}
-use mathlib.Core.Path.{◌≡◌, refl}
+use mathlib.Core.Path.{◌≡◌}
 use lib.ListN.{length}
-use Rattle.arrows.proofs.LevelLaws.{Leveled, leveled_start, leveled_more, leveled_none, leveled_end}
+use Rattle.arrows.proofs.LevelLaws.{Leveled}
 use Rattle.arrows.proofs.levels.count_moves.Given as goal
 
 abbrev pub invariant-loop-n : goal.invariant-loop-n

@@ -1,8 +1,6 @@
 -- `onward`: the lanes in which a move to a state before t leads where the level has them.
 -- Assumes nothing.
-use borrow.Author.Rules.{rules}
-use Prim.Native.Nat.{◌-◌}
-use Rattle.arrows.proofs.LevelLaws.{OnwardTo, onward_start, onward_more, onward_end}
+use Rattle.arrows.proofs.LevelLaws.{onward_start, onward_more, onward_end}
 use Rattle.arrows.proofs.levels.onward.Goals as goal
 
 pub loop-t-init : goal.loop-t-init

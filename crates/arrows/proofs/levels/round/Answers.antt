@@ -1,11 +1,8 @@
 -- `round`: the next level of the states before q, and the lanes that are in any of them.
 -- Assumes nothing.
-use borrow.Author.Rules.{rules}
-use Prim.Native.Nat.{◌-◌, ◌≤◌}
 use native.Mathlib.Omega.{arith}
-use mathlib.Core.Path.{◌≡◌, refl, sym, ◌∙◌}
-use lib.ListN.{length, length-set}
-use Rattle.arrows.specs.Levels.{Rounds}
+use mathlib.Core.Path.{refl}
+use lib.ListN.{length-set}
 use Rattle.arrows.proofs.LevelLaws.{next_none, next_some, rounds_start, rounds_more, rounds_skip, rounds_end}
 use Rattle.arrows.proofs.levels.round.Goals as goal
 

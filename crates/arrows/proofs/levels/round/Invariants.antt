@@ -1,12 +1,9 @@
 -- `round`: the next level of the states before q, and the lanes that are in any of them.
 -- Assumes nothing.
-use borrow.Author.Rules.{rules}
 use Prim.Native.Nat.{◌-◌, ◌≤◌}
-use native.Mathlib.Omega.{arith}
-use mathlib.Core.Path.{◌≡◌, refl, sym, ◌∙◌}
-use lib.ListN.{length, length-set}
+use mathlib.Core.Path.{◌≡◌}
+use lib.ListN.{length}
 use Rattle.arrows.specs.Levels.{Rounds}
-use Rattle.arrows.proofs.LevelLaws.{next_none, next_some, rounds_start, rounds_more, rounds_skip, rounds_end}
 use Rattle.arrows.proofs.levels.round.Given as goal
 
 abbrev pub invariant-loop-q : goal.invariant-loop-q

@@ -1,10 +1,7 @@
 -- `run_actions`: the action clauses before a are run.
 -- Assumes nothing.
-use borrow.Author.Rules.{rules}
-use Prim.Native.Nat.{◌-◌, ◌≤◌}
 use native.Mathlib.Omega.{arith}
 use mathlib.Core.Path.{◌∙◌}
-use Rattle.arrows.specs.Sorting.{RanAll}
 use Rattle.arrows.proofs.SortingLaws.{ran_start, ran_more, ran_end}
 use Rattle.arrows.proofs.sorting.run_actions.Goals as goal
 

@@ -1,10 +1,7 @@
 -- `sort_lanes`: the words of the states before q are sorted.
 -- Assumes nothing.
-use borrow.Author.Rules.{rules}
-use Prim.Native.Nat.{◌-◌, ◌≤◌}
 use native.Mathlib.Omega.{arith}
-use mathlib.Core.Path.{sym, ◌∙◌}
-use Rattle.arrows.specs.Sorting.{Sorted}
+use mathlib.Core.Path.{◌∙◌}
 use Rattle.arrows.proofs.SortingLaws.{hits_lent, runs_lent, all_start, all_more, all_end}
 use Rattle.arrows.proofs.sorting.sort_lanes.Goals as goal
 

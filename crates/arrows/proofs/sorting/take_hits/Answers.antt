@@ -1,10 +1,8 @@
 -- `take_hits`: after the clauses before m, the words have what these take, and the rest remains.
 -- Assumes nothing.
-use borrow.Author.Rules.{rules}
-use Prim.Native.Nat.{◌-◌}
 use native.Mathlib.Omega.{arith}
 use mathlib.Core.Path.{refl}
-use Rattle.arrows.proofs.SortingLaws.{Taking, taking_start, taking_hit, taking_past, taking_end}
+use Rattle.arrows.proofs.SortingLaws.{taking_start, taking_hit, taking_past, taking_end}
 use Rattle.arrows.proofs.sorting.take_hits.Goals as goal
 
 pub loop-m-init : goal.loop-m-init

@@ -1,10 +1,7 @@
 -- `take_hits`: after the clauses before m, the words have what these take, and the rest remains.
 -- Assumes nothing.
-use borrow.Author.Rules.{rules}
 use Prim.Native.Nat.{◌-◌}
-use native.Mathlib.Omega.{arith}
-use mathlib.Core.Path.{refl}
-use Rattle.arrows.proofs.SortingLaws.{Taking, taking_start, taking_hit, taking_past, taking_end}
+use Rattle.arrows.proofs.SortingLaws.{Taking}
 use Rattle.arrows.proofs.sorting.take_hits.Given as goal
 
 abbrev pub invariant-loop-m : goal.invariant-loop-m
