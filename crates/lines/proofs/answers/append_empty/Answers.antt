@@ -1,6 +1,5 @@
 -- The two bytes of the field.
 -- Assumes nothing.
-use borrow.Author.Rules.{rules}
 use Rattle.lines.proofs.answers.append_empty.Goals as goal
 
 pub returns : goal.returns

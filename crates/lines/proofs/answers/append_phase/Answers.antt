@@ -1,7 +1,6 @@
 -- A settled phase and a loop have their texts.
 -- Assumes nothing.
 use Rattle.lines.specs.Lines.{text_of}
-use borrow.Author.Rules.{rules}
 use Rattle.lines.proofs.answers.append_phase.Goals as goal
 
 pub returns-in-Settled : goal.returns-in-Settled

@@ -2,7 +2,6 @@
 -- Assumes nothing.
 use Rattle.lines.specs.Lines.{text_of}
 use Rattle.lines.proofs.LineLaws.{phase_closed}
-use borrow.Author.Rules.{rules}
 use Rattle.lines.proofs.answers.append_settled.Goals as goal
 
 pub returns-in-ByNone : goal.returns-in-ByNone

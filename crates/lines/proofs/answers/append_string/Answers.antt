@@ -2,7 +2,6 @@
 -- Assumes nothing.
 use Rattle.texts.proofs.Appending.{appended_then, appended_same}
 use Rattle.lines.proofs.LineLaws.{no_bytes, some_bytes}
-use borrow.Author.Rules.{rules}
 use Rattle.lines.proofs.answers.append_string.Goals as goal
 
 pub returns-then-bytes-eq0 : goal.returns-then-bytes-eq0

@@ -1,7 +1,6 @@
 -- The three numbers, and the empty field behind them.
 -- Assumes nothing.
 use Rattle.texts.proofs.Appending.{appended_then}
-use borrow.Author.Rules.{rules}
 use Rattle.lines.proofs.answers.append_unclosed.Goals as goal
 
 pub returns : goal.returns

@@ -1,6 +1,5 @@
 -- Each referrer has its two numbers.
 -- Assumes nothing.
-use borrow.Author.Rules.{rules}
 use Rattle.lines.proofs.answers.clause_line.Goals as goal
 
 pub returns-in-MoveTo : goal.returns-in-MoveTo

@@ -2,7 +2,6 @@
 -- Assumes nothing.
 use Rattle.texts.proofs.Appending.{appended_then, appended_same}
 use Rattle.lines.proofs.LineLaws.{command_given}
-use borrow.Author.Rules.{rules}
 use Rattle.lines.proofs.answers.given_line.Goals as goal
 
 pub returns : goal.returns

@@ -1,7 +1,6 @@
 -- An ignored and a handled command have their words.
 -- Assumes nothing.
 use Rattle.lines.specs.Lines.{text_of}
-use borrow.Author.Rules.{rules}
 use Rattle.lines.proofs.answers.handled_line.Goals as goal
 
 pub returns-in-Ignored : goal.returns-in-Ignored

@@ -2,7 +2,6 @@
 -- Assumes nothing.
 use Rattle.lines.specs.Lines.{text_of}
 use Rattle.lines.proofs.LineLaws.{told_refused}
-use borrow.Author.Rules.{rules}
 use Rattle.lines.proofs.answers.judge_line.Goals as goal
 
 pub returns-in-Accepted : goal.returns-in-Accepted

@@ -1,7 +1,6 @@
 -- A loop and its absence have their words.
 -- Assumes nothing.
 use Rattle.lines.specs.Lines.{text_of}
-use borrow.Author.Rules.{rules}
 use Rattle.lines.proofs.answers.looped_line.Goals as goal
 
 pub returns-in-Loop : goal.returns-in-Loop

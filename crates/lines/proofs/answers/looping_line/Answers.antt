@@ -1,7 +1,6 @@
 -- A refusal and what the loop question gives have their texts.
 -- Assumes nothing.
 use Rattle.lines.proofs.LineLaws.{told_refused}
-use borrow.Author.Rules.{rules}
 use Rattle.lines.proofs.answers.looping_line.Goals as goal
 
 pub returns-in-Refused : goal.returns-in-Refused

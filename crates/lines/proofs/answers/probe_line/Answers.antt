@@ -1,7 +1,6 @@
 -- A refusal and what the probe gives have their texts.
 -- Assumes nothing.
 use Rattle.lines.proofs.LineLaws.{told_refused}
-use borrow.Author.Rules.{rules}
 use Rattle.lines.proofs.answers.probe_line.Goals as goal
 
 pub returns-in-Refused : goal.returns-in-Refused

@@ -1,7 +1,6 @@
 -- No clause and a clause have their words.
 -- Assumes nothing.
 use Rattle.lines.specs.Lines.{said, text_of}
-use borrow.Author.Rules.{rules}
 use Rattle.lines.proofs.answers.probed_line.Goals as goal
 
 pub returns-in-Nothing : goal.returns-in-Nothing

@@ -1,6 +1,5 @@
 -- The number is that of the refusal.
 -- Assumes nothing.
-use borrow.Author.Rules.{rules}
 use Rattle.lines.proofs.answers.refused.Goals as goal
 
 pub returns : goal.returns

@@ -2,7 +2,6 @@
 -- Assumes nothing.
 use Rattle.texts.proofs.Appending.{appended_then}
 use Rattle.lines.specs.Lines.{said}
-use borrow.Author.Rules.{rules}
 use Rattle.lines.proofs.answers.say_one.Goals as goal
 
 pub returns : goal.returns
