@@ -1,7 +1,6 @@
 -- The class, the colon and the name, one behind the other.
 -- Assumes nothing.
 use Rattle.texts.proofs.Appending.{appended_then}
-use borrow.Author.Rules.{rules}
 use Rattle.loopline.proofs.append_child.Goals as goal
 
 pub returns : goal.returns

@@ -1,9 +1,6 @@
 -- The invariant: the first i children are appended. A turn appends one more.
 -- Assumes nothing.
-use Prim.Native.Nat.{◌-◌, ◌*◌, ◌/◌, ◌≤◌}
-use mathlib.Core.Path.{◌≡◌, ◌∙◌}
-use lib.ListN.{length, take}
-use Rattle.texts.specs.Texts.{Appended}
+use mathlib.Core.Path.{◌∙◌}
 use Rattle.texts.proofs.Appending.{appended_none, appended_then, appended_same}
 use Rattle.lines.specs.Lines.{child_fields}
 use Rattle.lines.proofs.LineLaws.{one_more, no_more}

@@ -1,13 +1,10 @@
 -- The invariant: the first i children are appended. A turn appends one more.
 -- Assumes nothing.
 use Prim.Native.Nat.{◌-◌, ◌*◌, ◌/◌, ◌≤◌}
-use mathlib.Core.Path.{◌≡◌, ◌∙◌}
+use mathlib.Core.Path.{◌≡◌}
 use lib.ListN.{length, take}
 use Rattle.texts.specs.Texts.{Appended}
-use Rattle.texts.proofs.Appending.{appended_none, appended_then, appended_same}
 use Rattle.lines.specs.Lines.{child_fields}
-use Rattle.lines.proofs.LineLaws.{one_more, no_more}
-use borrow.Author.Rules.{rules}
 use Rattle.loopline.proofs.append_children.Given as goal
 
 abbrev pub invariant-loop-i : goal.invariant-loop-i

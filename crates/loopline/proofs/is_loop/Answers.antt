@@ -1,7 +1,6 @@
 -- Only a loop has the numbers of one.
 -- Assumes nothing.
 use mathlib.Core.Bool.{and-false}
-use borrow.Author.Rules.{rules}
 use Rattle.loopline.proofs.is_loop.Goals as goal
 
 pub returns-in_default : goal.returns-in_default

@@ -3,7 +3,6 @@
 use mathlib.Core.Path.{sym, ◌∙◌}
 use mathlib.Core.List.{append-nil}
 use Rattle.texts.proofs.Appending.{appended_then}
-use borrow.Author.Rules.{rules}
 use Rattle.loopline.proofs.loopcheck_line.Goals as goal
 
 pub returns-then-is_loop : goal.returns-then-is_loop
