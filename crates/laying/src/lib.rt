@@ -1,5 +1,6 @@
 // The ends of a sheet that is written from a class text: its contents and its child classes; and names' records, for the table beside it.
 #![tactic(auto)]
+
 ghost use Rattle.std.specs.Prelude.{◌≡◌, ◌<◌};
 ghost use Rattle.pen.specs.Writing.{Puts};
 ghost use Rattle.naming.specs.NameLists.{padded};
