@@ -1,7 +1,6 @@
 -- The answer, and the buffer behind it.
 -- Assumes nothing.
 use Rattle.texts.proofs.Appending.{appended_then}
-use borrow.Author.Rules.{rules}
 use Rattle.writeline.proofs.write_line.Goals as goal
 
 pub returns : goal.returns

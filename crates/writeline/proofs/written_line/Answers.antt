@@ -2,7 +2,6 @@
 -- Assumes nothing.
 use Rattle.lines.specs.Lines.{one_case, written_word}
 use Rattle.lines.proofs.LineLaws.{case_refused}
-use borrow.Author.Rules.{rules}
 use Rattle.writeline.proofs.written_line.Goals as goal
 
 pub returns-in-Refused : goal.returns-in-Refused
