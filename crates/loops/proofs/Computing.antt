@@ -6,5 +6,5 @@ use Rattle.children.proofs.Computing.{computing as computing_children}
 use Rattle.configurations.proofs.Computing.{computing as computing_configurations}
 
 unfoldable pub computing : Unit {0}
-unfolding bits_below present_right bytes_of_loops reply_loop computing_sheet computing_children computing-configurations
+unfolding bits_below present_right bytes_of_loops reply_loop computing_sheet computing_children computing_configurations
 computing = tt

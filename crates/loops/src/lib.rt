@@ -3,6 +3,7 @@
 // 3 of it, is in `configurations`; the reply, with its refusals and the list that a loop writes, in specs/LoopQuestion.antt; the rest of specs/
 // has what the code makes on the way.
 #![tactic(auto)]
+
 pub mod asked;
 pub mod cells;
 pub mod chase;

@@ -1,0 +1,12 @@
+-- `read_cells`: after j pairs the code has read the first twenty of those that are present, and counted all, `Reading`.
+-- Assumes nothing.
+use borrow.Author.Rules.{rules}
+use Prim.Native.Nat.{◌-◌}
+use Rattle.loops.proofs.CellLaws.{Reading, reading_start, reading_more, reading_full, reading_past, reading_end}
+use Rattle.loops.proofs.cells.read_cells.Given as goal
+
+abbrev pub invariant-loop-j : goal.invariant-loop-j
+invariant-loop-j l = Reading l.classes l.present l.cell_classes l.cell_names l.count l.j
+
+abbrev pub decreases-loop-j : goal.decreases-loop-j
+decreases-loop-j l = 256 - l.j

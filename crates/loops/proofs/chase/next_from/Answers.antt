@@ -1,0 +1,11 @@
+-- `next_from`: a byte for each answer of the turn; a target is below 32, so 255 is none.
+-- Assumes nothing.
+use Rattle.loops.proofs.TableLaws.{moves_byte, stops_byte}
+use borrow.Author.Rules.{rules}
+use Rattle.loops.proofs.chase.next_from.Goals as goal
+
+pub returns-in-Moves : goal.returns-in-Moves
+returns-in-Moves c = moves_byte _ _ c.requires.0 _ _ _ _ _ _ c.turn_from-turned.ensures (λ i. (c.type_inv.sheet i).fits) _ c.in-Moves.is
+
+pub returns-in-Stops : goal.returns-in-Stops
+returns-in-Stops c = stops_byte _ _ c.requires.0 _ _ _ _ _ _ c.turn_from-turned.ensures _ c.in-Stops.is
