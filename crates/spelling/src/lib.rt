@@ -1,5 +1,6 @@
 // The words of a class text, written into a lent buffer: names, indents, the children that are spoken of, and sets of names.
 #![tactic(auto)]
+
 ghost use Rattle.std.specs.Prelude.{◌≡◌, ◌≤◌, eqb, length};
 ghost use Rattle.pen.specs.Writing.{Puts};
 ghost use Rattle.naming.specs.NameLists.{characters};
