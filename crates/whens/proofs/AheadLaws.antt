@@ -1,26 +1,24 @@
 -- One turn of the loops that look ahead.
 -- Assumes nothing.
-use Prim.Native.Nat.{ℕ, suc, ◌+◌, ◌-◌, ◌/◌, ◌%◌, ◌<◌, ◌≤◌}
+use Prim.Native.Nat.{ℕ, ◌+◌, ◌-◌, ◌/◌, ◌%◌, ◌<◌}
 use native.Mathlib.Omega.{arith}
-use native.Mathlib.Numerals.{add-one}
-use mathlib.Core.Path.{◌≡◌, refl, sym, ◌∙◌, ap}
+use mathlib.Core.Path.{◌≡◌, sym, ◌∙◌, ap}
 use mathlib.Core.Bool.{Bool, true, false, ◌&&◌, ◌||◌}
 use mathlib.Core.List.{List, [], ◌∷◌}
 use lib.Dec.{eqb, leb}
 use lib.ListN.{length}
 use borrow.Author.Tests.{ne_eqb, eq-eqb}
-use Rattle.model.specs.Words.{choose, kept}
 use Rattle.model.proofs.Words.{true_not_false, or_second}
-use Rattle.grammar.specs.Grammar.{Token, Name, Referrer, move_to, run, stay}
-use Rattle.grammar.specs.Words.{same, position, tokens}
-use Rattle.grammar.specs.Kinds.{kind_of, bytes_of, token_as}
-use Rattle.words.specs.Scanning.{words_from, tokens_from, stretch, end_kind, behind, Next}
+use Rattle.grammar.specs.Grammar.{Name, Referrer, move_to, run, stay}
+use Rattle.grammar.specs.Words.{tokens}
+use Rattle.grammar.specs.Kinds.{bytes_of, token_as}
+use Rattle.words.specs.Scanning.{tokens_from, stretch, end_kind, behind, Next}
 use Rattle.words.proofs.Turns.{turn, kind_as, bytes_as}
 use Rattle.encoding.specs.Records.{four, fours}
 use Rattle.pen.specs.Writing.{Puts}
 use Rattle.lists.specs.Lent.{found_from}
 use Rattle.lists.specs.declared.Found.{Found}
-use Rattle.own.specs.Ahead.{first_bytes, names_ahead, names_from}
+use Rattle.own.specs.Ahead.{first_bytes, names_from}
 use Rattle.own.specs.Held.{Filled, all_names}
 use Rattle.whens.specs.Ahead.{guards_after, found_number, number_among, low4}
 use Rattle.whens.specs.Naming.{NameAhead, referrer_as, Stands, Refers}

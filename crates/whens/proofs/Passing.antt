@@ -1,6 +1,6 @@
 -- Suffix functions that count guard records and pass over guards, parts, when clauses, action clauses; rows as lists.
 -- Assumes nothing.
-use Prim.Native.Nat.{ℕ, suc, ◌+◌}
+use Prim.Native.Nat.{ℕ, ◌+◌}
 use native.Mathlib.Omega.{arith}
 use mathlib.Core.Path.{◌≡◌, refl, sym, ◌∙◌, ap}
 use mathlib.Core.Bool.{Bool, true, false, ◌&&◌, ◌||◌}
@@ -11,12 +11,12 @@ use borrow.Author.Tests.{eqb-true}
 use Rattle.model.specs.Tree as M
 use Rattle.model.specs.Words.{every}
 use Rattle.model.proofs.Words.{clash, and_left, and_right, or_first}
-use Rattle.grammar.specs.Grammar.{Token, fixed, name, Name, Row, none, ◌then◌, Kin, children, kin, Names, one, more, Set, single, braces, Quantifier, any, all, Side, inside, outside, Guard, just, or, Conj, only, and, Operand, not, brackets, atom, Referrer, move_to, run, stay, stay_in, When, Part, nothing, send, go_to, if_then, if_else, Action, State, Text, class_word, state_word, action_word, top_word, any_word, all_word, when_word, move_word, do_word, stay_word, if_word, then_word, else_word, endif_word, and_word, or_word, not_word, in_word, out_word, open_word, close_word, left_word, right_word, comma_word, end_word, children_word, row_words, kin_words, names_words, set_words, quantifier_word, side_word, guard_words, conj_words, operand_words, referrer_words, when_words, part_words, action_words, state_words, text_words}
+use Rattle.grammar.specs.Grammar.{Token, fixed, name, Name, Row, none, ◌then◌, Kin, children, kin, Names, one, more, Set, single, braces, Quantifier, any, all, Side, inside, outside, Guard, just, or, Conj, only, and, Operand, not, brackets, atom, Referrer, move_to, run, stay, stay_in, When, Part, nothing, send, go_to, if_then, if_else, State, Text, class_word, state_word, top_word, any_word, all_word, when_word, move_word, do_word, stay_word, if_word, then_word, else_word, endif_word, and_word, or_word, not_word, in_word, out_word, open_word, close_word, left_word, right_word, comma_word, end_word, children_word, row_words, kin_words, names_words, set_words, quantifier_word, side_word, guard_words, conj_words, operand_words, referrer_words, when_words, part_words, action_words, state_words, text_words}
 use Rattle.grammar.specs.Kinds.{kind_of}
 use Rattle.naming.specs.NameLists.{Lists}
 use Rattle.naming.specs.Naming.{in_order, all_states, guard_of, conj_of, operand_of, part_of}
 use Rattle.encoding.specs.Records.{Eight}
-use Rattle.encoding.specs.Encoding.{guard_records, part_guards, statement_guards, gathered, placed}
+use Rattle.encoding.specs.Encoding.{guard_records, part_guards, gathered, placed}
 use Rattle.whens.specs.Ahead.{guards_after}
 
 -- a kind that passes a test is not one that does not

@@ -1,24 +1,23 @@
 -- The when clauses of the words of a text are those of its class.
 -- Assumes nothing.
-use Prim.Native.Nat.{ℕ, suc, ◌+◌, ◌/◌, ◌%◌, ◌<◌}
+use Prim.Native.Nat.{ℕ, ◌+◌, ◌%◌}
 use native.Mathlib.Omega.{arith}
 use native.Mathlib.Nat.{mod-eq_of_lt, mod-mod}
-use mathlib.Core.Path.{◌≡◌, refl, sym, ◌∙◌, ap}
-use mathlib.Core.Bool.{Bool, true, false, ◌&&◌, ◌||◌}
+use mathlib.Core.Path.{◌≡◌, refl, ◌∙◌, ap}
+use mathlib.Core.Bool.{Bool, true, false, ◌&&◌}
 use mathlib.Core.List.{List, [], ◌∷◌, ◌++◌, map, append-nil}
-use lib.Dec.{eqb, leb}
 use lib.ListN.{length, length-append}
 use Rattle.model.specs.Tree as M
 use Rattle.model.specs.Words.{every}
-use Rattle.model.proofs.Words.{and_left, and_right, or_first, or_second}
-use Rattle.grammar.specs.Grammar.{Token, fixed, name, Name, Guard, Referrer, move_to, run, stay, stay_in, When, Action, State, Text, state_word, action_word, when_word, end_word, guard_words, referrer_words, when_words, part_words, action_words, state_words, text_words}
+use Rattle.model.proofs.Words.{and_left, and_right, or_first}
+use Rattle.grammar.specs.Grammar.{Token, fixed, Name, Guard, Referrer, move_to, run, stay, stay_in, When, Action, State, Text, end_word, guard_words, referrer_words, when_words, action_words, state_words, text_words}
 use Rattle.grammar.specs.Words.{position}
 use Rattle.grammar.specs.Kinds.{kind_of, bytes_of}
 use Rattle.naming.specs.NameLists.{Lists, command_names, listed_in, none_twice}
-use Rattle.naming.specs.Naming.{in_order, all_states, own_names, action_names, guard_of, part_of, referrer_of, when_of, action_of, state_of, class_in}
+use Rattle.naming.specs.Naming.{in_order, all_states, own_names, action_names, referrer_of, when_of, action_of, state_of, class_in}
 use Rattle.naming.specs.Known.{among, guard_known, referrer_known, when_known, action_known, state_known, text_known}
-use Rattle.encoding.specs.Records.{Four, Eight, four, fours}
-use Rattle.encoding.specs.Encoding.{guard_records, part_guards, gathered, placed, when_guards, action_guards, state_guards, referrer_code, referrer_target, when_record, state_whens, when_records}
+use Rattle.encoding.specs.Records.{Four}
+use Rattle.encoding.specs.Encoding.{part_guards, gathered, placed, when_guards, action_guards, state_guards, referrer_code, referrer_target, when_record, state_whens, when_records}
 use Rattle.encoding.specs.Numbers.{Every}
 use Rattle.encoding.specs.Within.{Within}
 use Rattle.encoding.proofs.Small.{Small4}
@@ -27,7 +26,7 @@ use Rattle.encoding.proofs.SheetBytes.{states_small}
 use Rattle.own.specs.Ahead.{first_bytes, names_ahead}
 use Rattle.whens.specs.Ahead.{guards_after, low4}
 use Rattle.whens.specs.Whens.{referrer_ahead, referrer_number, target_number, when_ahead, whens_from}
-use Rattle.whens.proofs.Passing.{other_kind, in_guard, in_clause, in_when, in_part, Passes, guard_pass, clause_pass, when_pass, part_size, part_sized, part_pass, list_words, state_listed, text_listed, list_pass, list_gives, placed_map}
+use Rattle.whens.proofs.Passing.{other_kind, in_guard, in_clause, in_when, in_part, Passes, guard_pass, clause_pass, when_pass, part_sized, part_pass, list_words, state_listed, text_listed, list_pass, list_gives, placed_map}
 
 -- a number in a function of specs/ is found where its name is known
 abbrev pub Finds : (Name → ℕ) → List Name → Type 0

@@ -1,6 +1,6 @@
 -- One turn of the loop that writes the when clauses, and its end.
 -- Assumes nothing.
-use Prim.Native.Nat.{ℕ, ◌+◌, ◌-◌, ◌<◌, ◌≤◌}
+use Prim.Native.Nat.{ℕ, ◌+◌, ◌<◌, ◌≤◌}
 use native.Mathlib.Omega.{arith}
 use mathlib.Core.Path.{◌≡◌, refl, sym, ◌∙◌, ap}
 use mathlib.Core.List.{List, [], ◌∷◌, ◌++◌}
@@ -8,20 +8,19 @@ use lib.Dec.{eqb}
 use lib.ListN.{length}
 use lib.Seq.{length-sets}
 use borrow.Author.Tests.{ne_eqb, eq-eqb}
-use Rattle.model.specs.Words.{choose, kept}
+use Rattle.model.specs.Words.{kept}
 use Rattle.model.proofs.Words.{choose_case}
-use Rattle.grammar.specs.Grammar.{Token, fixed, Name, Text, end_word, text_words}
-use Rattle.grammar.specs.Words.{words, tokens, position}
+use Rattle.grammar.specs.Grammar.{Name, Text, text_words}
+use Rattle.grammar.specs.Words.{words, position}
 use Rattle.grammar.specs.Kinds.{kind_of}
 use Rattle.grammar.specs.Reading.{Says}
-use Rattle.naming.specs.NameLists.{Lists}
 use Rattle.naming.specs.Naming.{own_names, class_in}
 use Rattle.naming.specs.Known.{among}
 use Rattle.words.specs.Scanning.{words_from, tokens_from, stretch, end_kind, Next}
 use Rattle.words.proofs.Turns.{turn, last, kind_as}
 use Rattle.lists.specs.Lent.{found_from}
 use Rattle.own.proofs.Trees.{own_from}
-use Rattle.encoding.specs.Records.{Four, fours}
+use Rattle.encoding.specs.Records.{fours}
 use Rattle.encoding.specs.Encoding.{when_records}
 use Rattle.pen.specs.Writing.{last_place, Puts}
 use Rattle.pen.proofs.Puts.{Writing, writing_more, writing_end}

@@ -1,5 +1,6 @@
 // The body of when clauses: one record for each word `when`, by the words ahead of it.
 #![tactic(auto)]
+
 ghost use Rattle.std.specs.Prelude.{◌≡◌, [], ◌∷◌, ◌%◌, ◌<◌};
 ghost use Rattle.own.specs.Ahead.{names_from};
 ghost use Rattle.own.specs.Held.{Filled};
