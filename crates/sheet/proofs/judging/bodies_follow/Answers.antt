@@ -1,12 +1,8 @@
 -- The invariant: each body passed is followed by the next. The ends are tested before the loop.
 -- Assumes nothing.
-use Prim.Native.Nat.{◌≤◌, ◌-◌}
-use mathlib.Core.Path.{◌≡◌}
-use mathlib.Core.Bool.{true}
 use borrow.Author.Rules.{rules}
-use Rattle.model.specs.Words.{each}
 use Rattle.model.proofs.Words.{each_none, each_so_far, each_all}
-use Rattle.sheet.proofs.JudgeLaws.{follows, ends_wrong, follows_wrong, follows_on, follow_through}
+use Rattle.sheet.proofs.JudgeLaws.{ends_wrong, follows_wrong, follows_on, follow_through}
 use Rattle.sheet.proofs.judging.bodies_follow.Goals as goal
 
 pub returns-then-start-end : goal.returns-then-start-end

@@ -3,10 +3,8 @@
 use Prim.Native.Nat.{◌≤◌, ◌-◌}
 use mathlib.Core.Path.{◌≡◌}
 use mathlib.Core.Bool.{true}
-use borrow.Author.Rules.{rules}
 use Rattle.model.specs.Words.{each}
-use Rattle.model.proofs.Words.{each_none, each_so_far, each_all}
-use Rattle.sheet.proofs.JudgeLaws.{follows, ends_wrong, follows_wrong, follows_on, follow_through}
+use Rattle.sheet.proofs.JudgeLaws.{follows}
 use Rattle.sheet.proofs.judging.bodies_follow.Given as goal
 
 abbrev pub invariant-loop-k : goal.invariant-loop-k

@@ -1,9 +1,6 @@
 -- The table is the definitions' own, and every record has some bytes to divide by.
 -- Assumes nothing.
-use Prim.Native.Nat.{◌<◌}
 use mathlib.Core.Path.{refl}
-use borrow.Author.Rules.{rules}
-use Rattle.sheet.specs.Contents.{record_bytes}
 use Rattle.sheet.proofs.JudgeLaws.{some_bytes, count_told}
 use Rattle.sheet.proofs.judging.count_ok.Goals as goal
 

@@ -1,13 +1,9 @@
 -- The invariant: each body passed is right.
 -- Assumes nothing.
-use Prim.Native.Nat.{◌≤◌, ◌-◌}
-use mathlib.Core.Path.{◌≡◌, sym, ◌∙◌}
-use mathlib.Core.Bool.{true}
+use mathlib.Core.Path.{sym, ◌∙◌}
 use borrow.Author.Rules.{rules}
-use borrow.Author.Tests.{not-true, not-false}
-use Rattle.model.specs.Words.{each}
 use Rattle.model.proofs.Words.{each_none, each_so_far, each_all, each_broken}
-use Rattle.sheet.specs.Contents.{count_right, counts_in_range}
+use Rattle.sheet.specs.Contents.{counts_in_range}
 use Rattle.sheet.proofs.judging.counts_in_range.Goals as goal
 
 pub loop-k-init : goal.loop-k-init

@@ -1,11 +1,8 @@
 -- A test that fails gives its number; behind both tests the places that were read rise, and mark off the six bodies.
 -- Assumes nothing.
-use mathlib.Core.Path.{◌≡◌}
-use mathlib.Core.Bool.{true}
 use borrow.Author.Rules.{rules}
-use Rattle.sheet.specs.Contents.{length_right, contents_right}
 use Rattle.sheet.proofs.JudgeLaws.{length_wrong, length_fits, contents_wrong, contents_fit}
-use Rattle.sheet.proofs.PlaceLaws.{Rising, rising, cut_short, verdict_told}
+use Rattle.sheet.proofs.PlaceLaws.{rising, cut_short, verdict_told}
 use mathlib.Core.Path.{ap}
 use mathlib.Core.Bool.{not}
 use Rattle.sheet.proofs.judging.judge.Goals as goal

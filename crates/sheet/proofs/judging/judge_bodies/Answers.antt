@@ -1,11 +1,7 @@
 -- At each check that passed, what the rules from the next on give is the refusal of the bodies; so a check that fails gives its number.
 -- Assumes nothing.
-use mathlib.Core.Path.{◌≡◌}
-use borrow.Author.Rules.{rules}
-use Rattle.sheet.specs.Contents.{Bodies}
-use Rattle.sheet.specs.Rules.{refusal_in}
 use Rattle.sheet.specs.Verdict.{together}
-use Rattle.sheet.proofs.JudgeLaws.{from_4, from_5, from_6, from_7, from_8, from_9, from_first, goes_on, stops, accepts}
+use Rattle.sheet.proofs.JudgeLaws.{from_first, goes_on, stops, accepts}
 use mathlib.Core.Path.{ap}
 use mathlib.Core.Bool.{not}
 use Rattle.sheet.proofs.judging.judge_bodies.Goals as goal
