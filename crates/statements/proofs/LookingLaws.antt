@@ -3,14 +3,13 @@
 use Prim.Native.Nat.{ℕ, ◌+◌, ◌-◌, ◌<◌, ◌≤◌}
 use native.Mathlib.Omega.{arith}
 use mathlib.Core.Path.{◌≡◌, refl, sym, ◌∙◌, ap}
-use mathlib.Core.Bool.{Bool, true, false, ◌&&◌, ◌||◌}
+use mathlib.Core.Bool.{Bool, true, false, ◌||◌}
 use mathlib.Core.List.{List, [], ◌∷◌}
-use lib.Dec.{eqb, ltb}
+use lib.Dec.{eqb}
 use lib.ListN.{length}
 use borrow.Author.Tests.{ne_eqb, eq-eqb, eqb-true}
 use Rattle.model.specs.Words.{choose}
-use Rattle.model.proofs.Words.{clash, true_not_false, or_first, or_second, not_not_true, choose_case}
-use Rattle.grammar.specs.Grammar.{Token, fixed, end_word}
+use Rattle.model.proofs.Words.{true_not_false, or_first, or_second, not_not_true, choose_case}
 use Rattle.grammar.specs.Kinds.{kind_of, token_as}
 use Rattle.naming.specs.NameLists.{padded, records_in}
 use Rattle.words.specs.Scanning.{tokens_from, stretch, end_kind, Next}

@@ -1,22 +1,19 @@
 -- How many statements a part has, by its tree, by its records, and by the words ahead.
 -- Assumes nothing.
-use Prim.Native.Nat.{ℕ, suc, ◌+◌, ◌-◌}
+use Prim.Native.Nat.{ℕ, suc, ◌+◌}
 use native.Mathlib.Omega.{arith}
-use mathlib.Core.Path.{◌≡◌, refl, sym, ◌∙◌, ap}
-use mathlib.Core.Bool.{Bool, true, false}
-use mathlib.Core.List.{List, [], ◌∷◌, ◌++◌}
-use lib.Dec.{eqb}
+use mathlib.Core.Path.{◌≡◌, refl, ◌∙◌, ap}
+use mathlib.Core.List.{List, ◌∷◌, ◌++◌}
 use lib.ListN.{length, length-append}
 use borrow.Author.Tests.{ne_eqb}
 use Rattle.model.specs.Tree as M
-use Rattle.grammar.specs.Grammar.{Token, fixed, name, Name, Guard, Kin, Part, nothing, send, go_to, if_then, if_else, all_word, do_word, move_word, if_word, then_word, else_word, endif_word, kin_words, guard_words, part_words}
+use Rattle.grammar.specs.Grammar.{Token, fixed, name, Name, Guard, Part, nothing, send, go_to, if_then, if_else, all_word, do_word, move_word, if_word, then_word, else_word, endif_word, kin_words, guard_words, part_words}
 use Rattle.grammar.specs.Kinds.{kind_of}
 use Rattle.naming.specs.NameLists.{Lists}
 use Rattle.naming.specs.Naming.{guard_of, part_of}
-use Rattle.encoding.specs.Encoding.{guard_records, part_guards, part_records, inner_records}
-use Rattle.whens.specs.Ahead.{guards_after}
+use Rattle.encoding.specs.Encoding.{guard_records, part_guards, part_records}
 use Rattle.whens.proofs.Passing.{other_kind, in_guard, Passes, kin_pass, guard_pass}
-use Rattle.statements.specs.Statements.{count_after, depth_after, ends_part, PartAhead, part_ahead, else_size}
+use Rattle.statements.specs.Statements.{count_after, depth_after, PartAhead, part_ahead, else_size}
 
 -- the statements of a part, those in its ifs counted
 unfoldable pub part_count : Part → ℕ

@@ -1,15 +1,13 @@
 -- The record of a statement, by its kind and the words ahead of it.
 -- Assumes nothing.
 use Prim.Native.Nat.{ℕ, ◌/◌}
-use mathlib.Core.Path.{◌≡◌, refl, sym, ◌∙◌, ap}
+use mathlib.Core.Path.{◌≡◌, ◌∙◌, ap}
 use mathlib.Core.Bool.{Bool, true, false}
 use mathlib.Core.List.{List, [], ◌∷◌}
-use lib.Dec.{eqb}
 use lib.ListN.{drop}
 use borrow.Author.Tests.{ne_eqb, eq-eqb}
-use Rattle.grammar.specs.Grammar.{Name, Token}
-use Rattle.grammar.specs.Words.{tokens}
-use Rattle.grammar.specs.Kinds.{kind_of, bytes_of, token_as}
+use Rattle.grammar.specs.Grammar.{Name}
+use Rattle.grammar.specs.Kinds.{bytes_of, token_as}
 use Rattle.words.specs.Scanning.{tokens_from, stretch, end_kind, Next}
 use Rattle.words.proofs.Turns.{turn, last, kind_as}
 use Rattle.encoding.specs.Records.{Four, four, eight, zeros, fours, eights}
@@ -20,7 +18,7 @@ use Rattle.whens.specs.Ahead.{low4, low8}
 use Rattle.whens.specs.Naming.{NameAhead}
 use Rattle.whens.specs.Whens.{own_number}
 use Rattle.whens.proofs.AheadLaws.{front}
-use Rattle.statements.specs.Statements.{PartAhead, part_ahead, else_size, on_after, kin_ahead, move_ahead, do_ahead, if_ahead, statement_ahead, number_of, statement_at}
+use Rattle.statements.specs.Statements.{on_after, kin_ahead, move_ahead, do_ahead, if_ahead, statement_ahead, number_of, statement_at}
 use Rattle.statements.specs.Parts.{else_at, PartEnds}
 
 -- behind an action: statements stand, behind a state: none

@@ -1,23 +1,22 @@
 -- The statements of the words of a text are those of its class.
 -- Assumes nothing.
-use Prim.Native.Nat.{ℕ, suc, ◌+◌, ◌/◌, ◌%◌, ◌<◌}
+use Prim.Native.Nat.{ℕ, ◌+◌, ◌/◌, ◌%◌}
 use native.Mathlib.Omega.{arith}
 use native.Mathlib.Nat.{mod-mod}
 use mathlib.Core.Path.{◌≡◌, refl, sym, ◌∙◌, ap}
-use mathlib.Core.Bool.{Bool, true, false, ◌&&◌, ◌||◌}
+use mathlib.Core.Bool.{Bool, true, false, ◌&&◌}
 use mathlib.Core.List.{List, [], ◌∷◌, ◌++◌, map, map-append, append-nil, append_assoc}
-use lib.Dec.{eqb, leb}
-use lib.ListN.{length, length-append, drop}
+use lib.ListN.{length, length-append}
 use Rattle.model.specs.Tree as M
 use Rattle.model.specs.Words.{every}
-use Rattle.model.proofs.Words.{and_left, and_right, or_first}
-use Rattle.grammar.specs.Grammar.{Token, fixed, name, Name, Guard, Kin, children, kin, Part, nothing, send, go_to, if_then, if_else, When, Action, State, Text, all_word, do_word, move_word, if_word, then_word, else_word, endif_word, end_word, children_word, kin_words, guard_words, when_words, part_words, action_words, state_words, text_words}
+use Rattle.model.proofs.Words.{and_left, and_right}
+use Rattle.grammar.specs.Grammar.{Token, fixed, name, Name, Guard, Kin, children, kin, Part, nothing, send, go_to, if_then, if_else, Action, State, Text, all_word, do_word, move_word, if_word, then_word, else_word, endif_word, end_word, kin_words, guard_words, when_words, part_words, action_words, state_words, text_words}
 use Rattle.grammar.specs.Words.{position}
 use Rattle.grammar.specs.Kinds.{kind_of, bytes_of}
 use Rattle.naming.specs.NameLists.{Lists, command_names, class_names, number_in, listed_in, none_twice}
 use Rattle.naming.specs.Naming.{in_order, all_states, own_names, action_names, pattern_of, guard_of, part_of, when_of, action_of, state_of, class_in}
 use Rattle.naming.specs.Known.{among, kin_known, guard_known, part_known, when_known, action_known, state_known, text_known}
-use Rattle.encoding.specs.Records.{Four, Eight, four, eight, zeros, pair}
+use Rattle.encoding.specs.Records.{Eight, four, eight, zeros, pair}
 use Rattle.encoding.specs.Encoding.{pattern_number, guard_records, part_guards, part_records, own_record, gathered, placed, when_guards, action_guards, state_guards, state_statements, statement_records}
 use Rattle.encoding.specs.Numbers.{Every}
 use Rattle.encoding.specs.Within.{Within}
@@ -25,11 +24,11 @@ use Rattle.encoding.proofs.Small.{Small8}
 use Rattle.encoding.proofs.Inside.{states_inside}
 use Rattle.encoding.proofs.SheetBytes.{states_small}
 use Rattle.own.specs.Ahead.{first_bytes}
-use Rattle.whens.specs.Ahead.{guards_after, low4, low8}
-use Rattle.whens.proofs.Passing.{other_kind, in_guard, in_clause, in_when, Passes, kin_pass, guard_pass, when_pass, part_size, part_sized, list_words, state_listed, text_listed, list_pass, list_gives, placed_map}
+use Rattle.whens.specs.Ahead.{guards_after, low8}
+use Rattle.whens.proofs.Passing.{other_kind, in_guard, in_when, Passes, kin_pass, guard_pass, when_pass, part_size, part_sized, list_words, state_listed, text_listed, list_pass, list_gives, placed_map}
 use Rattle.whens.proofs.WhenLaws.{Finds, low_bytes}
-use Rattle.statements.specs.Statements.{is_statement, PartAhead, part_ahead, else_size, on_after, kin_ahead, statement_ahead, statements_from}
-use Rattle.statements.proofs.PartLaws.{part_count, part_length, then_ahead, else_ahead, else_sized}
+use Rattle.statements.specs.Statements.{PartAhead, part_ahead, else_size, on_after, kin_ahead, statement_ahead, statements_from}
+use Rattle.statements.proofs.PartLaws.{part_length, then_ahead, else_ahead, else_sized}
 
 -- a number in a list of specs/ is found where its name is listed
 abbrev pub FindsIn : (Name → ℕ) → List (List ℕ) → Type 0

@@ -1,6 +1,5 @@
 -- Statements as they are written, and their records, computed from the bytes of the text.
 -- Assumes nothing.
-use Prim.Native.Nat.{ℕ}
 use Prim.Native.String.{String}
 use mathlib.Core.Path.{◌≡◌, refl}
 use mathlib.Core.Bool.{false}

@@ -1,24 +1,22 @@
 -- One turn of the loop that writes the statements, and its end.
 -- Assumes nothing.
-use Prim.Native.Nat.{ℕ, ◌+◌, ◌-◌, ◌<◌, ◌≤◌}
+use Prim.Native.Nat.{ℕ, ◌+◌, ◌<◌, ◌≤◌}
 use native.Mathlib.Omega.{arith}
-use mathlib.Core.Path.{◌≡◌, refl, sym, ◌∙◌, ap}
+use mathlib.Core.Path.{◌≡◌, refl, ◌∙◌, ap}
 use mathlib.Core.Bool.{Bool, true, false, ◌&&◌}
 use mathlib.Core.List.{List, [], ◌∷◌, ◌++◌}
-use lib.Dec.{eqb}
 use lib.ListN.{length}
 use lib.Seq.{length-sets}
-use Rattle.model.specs.Words.{choose, kept}
-use Rattle.grammar.specs.Grammar.{fixed, end_word, Name, Text}
+use Rattle.model.specs.Words.{kept}
+use Rattle.grammar.specs.Grammar.{fixed, end_word}
 use Rattle.grammar.specs.Words.{position}
 use Rattle.grammar.specs.Kinds.{kind_of}
-use Rattle.grammar.specs.Reading.{Says}
 use Rattle.naming.specs.NameLists.{padded, records_in, number_in, listed_in}
 use Rattle.naming.specs.Naming.{class_in}
-use Rattle.words.specs.Scanning.{tokens_from, stretch, end_kind, Next}
+use Rattle.words.specs.Scanning.{stretch, end_kind, Next}
 use Rattle.words.proofs.Turns.{turn, last, kind_as}
 use Rattle.lists.specs.Lent.{lent, found_from}
-use Rattle.encoding.specs.Records.{Eight, eights}
+use Rattle.encoding.specs.Records.{eights}
 use Rattle.encoding.specs.Encoding.{statement_records}
 use Rattle.pen.specs.Writing.{last_place, Puts}
 use Rattle.pen.proofs.Puts.{Writing, writing_more, writing_end}

@@ -1,5 +1,6 @@
 // The body of statements: one record for each do, move_to and if behind an action:, by the words ahead of it.
 #![tactic(auto)]
+
 ghost use Rattle.std.specs.Prelude.{◌≡◌, [], ◌∷◌, ◌/◌, ◌<◌, ◌≤◌, drop};
 ghost use Rattle.words.specs.Scanning.{tokens_from};
 ghost use Rattle.own.specs.Held.{Filled};
