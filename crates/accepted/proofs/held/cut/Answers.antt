@@ -2,7 +2,6 @@
 -- Assumes nothing.
 use native.Mathlib.Omega.{arith}
 use Rattle.accepted.proofs.ReaderLaws.{body_starts, body_ends, body_fits, body_cut}
-use borrow.Author.Rules.{rules}
 use Rattle.accepted.proofs.held.cut.Goals as goal
 
 -- the first place is before the second, and that is in the sheet

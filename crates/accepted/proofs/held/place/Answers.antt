@@ -2,7 +2,6 @@
 -- Assumes nothing.
 use native.Mathlib.Omega.{arith}
 use Rattle.accepted.proofs.ReaderLaws.{place_past}
-use borrow.Author.Rules.{rules}
 use Rattle.accepted.proofs.held.place.Goals as goal
 
 pub returns-in_default : goal.returns-in_default

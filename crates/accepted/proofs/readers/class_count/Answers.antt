@@ -1,7 +1,6 @@
 -- `class_count` counts the records of body 0, which an accepted sheet has few of.
 -- Assumes nothing.
 use Rattle.accepted.proofs.ReaderLaws.{classes_few}
-use borrow.Author.Rules.{rules}
 use Rattle.accepted.proofs.readers.class_count.Goals as goal
 
 pub returns : goal.returns

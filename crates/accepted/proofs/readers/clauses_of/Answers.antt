@@ -5,7 +5,6 @@ use mathlib.Core.Path.{◌∙◌, ap}
 use mathlib.Core.List.{List}
 use Prim.Native.Nat.{ℕ}
 use Rattle.bodies.specs.Clauses.{count_at, count_sum}
-use borrow.Author.Rules.{rules}
 use Rattle.accepted.proofs.readers.clauses_of.Goals as goal
 
 pub returns : goal.returns

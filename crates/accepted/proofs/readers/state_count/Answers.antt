@@ -1,7 +1,6 @@
 -- `state_count` counts the records of body 1, which an accepted sheet has few of.
 -- Assumes nothing.
 use Rattle.accepted.proofs.ReaderLaws.{states_few}
-use borrow.Author.Rules.{rules}
 use Rattle.accepted.proofs.readers.state_count.Goals as goal
 
 pub returns : goal.returns
