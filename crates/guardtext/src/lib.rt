@@ -1,5 +1,6 @@
 // The text of a guard, written from its records: the writer calls itself on each operand.
 #![tactic(auto)]
+
 ghost use Rattle.model.specs.Tree.{atom};
 ghost use Rattle.pen.specs.Writing.{Puts};
 ghost use Rattle.records.specs.GuardRecords.{guard_at, joined, operands};
