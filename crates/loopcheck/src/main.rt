@@ -1,6 +1,7 @@
 // loopcheck: reads a class sheet from standard input and prints one line, whether a node of this class can loop in its when phase.
 // One byte more than the longest sheet is read, which is refused as any longer input would be.
 #![tactic(auto)]
+
 mod line;
 
 use line::{LINE, render};
