@@ -1,17 +1,16 @@
 -- The turns of the loops that find fields.
 -- Assumes nothing.
-use Prim.Native.Nat.{ℕ, zero, suc, ◌+◌, ◌-◌, ◌<◌, ◌≤◌}
+use Prim.Native.Nat.{ℕ, zero, suc, ◌+◌, ◌<◌, ◌≤◌}
 use native.Mathlib.Omega.{arith}
 use native.Mathlib.Numerals.{add-one}
-use mathlib.Core.Path.{◌≡◌, refl, sym, ◌∙◌, ap, subst}
-use mathlib.Core.Bool.{Bool, true, false, ◌||◌}
+use mathlib.Core.Path.{◌≡◌, refl, sym, ◌∙◌, ap}
+use mathlib.Core.Bool.{true, false}
 use mathlib.Core.List.{List, [], ◌∷◌}
 use lib.Dec.{eqb}
 use lib.ListN.{length, get_or, drop, length-drop, drop_of_length-le}
-use lib.Seq.{drop-cons, drop-length, drop-drop}
+use lib.Seq.{drop-cons, drop-drop}
 use borrow.Author.Tests.{eq-eqb, ne_eqb}
-use Rattle.model.specs.Words.{choose}
-use Rattle.classfile.specs.Fields.{Field, field, word_kind, line_kind, file_kind, blank, white, run, cut, fields_from, behind, Next, Blanks, WordEnds}
+use Rattle.classfile.specs.Fields.{field, word_kind, line_kind, file_kind, blank, white, run, cut, fields_from, Next, Blanks, WordEnds}
 
 cut_blank : (b : ℕ) (bs : List ℕ) (at : ℕ) → blank b ≡ true → cut 0 at (b ∷ bs) ≡ cut 0 (suc at) bs
 unfolding cut

@@ -1,15 +1,12 @@
 -- What the lines of a head come to, in the numbers of the code and in lists.
 -- Assumes nothing.
-use Prim.Native.Nat.{ℕ, ◌+◌, ◌-◌, ◌<◌, ◌≤◌}
-use native.Mathlib.Omega.{arith}
+use Prim.Native.Nat.{ℕ, ◌+◌, ◌-◌}
 use mathlib.Core.Path.{◌≡◌, refl, sym, ◌∙◌, ap, subst}
-use mathlib.Core.Bool.{Bool, true, false}
-use mathlib.Core.List.{List, [], ◌∷◌, ◌++◌}
-use lib.Dec.{eqb, ltb}
-use lib.ListN.{length, take, drop}
+use mathlib.Core.Bool.{true, false}
+use mathlib.Core.List.{List}
+use lib.ListN.{length, take}
 use lib.Seq.{sets}
-use borrow.Author.Tests.{lt-ltb, le-ltb, eq-eqb, ne_eqb}
-use Rattle.model.specs.Words.{choose}
+use borrow.Author.Tests.{eq-eqb, ne_eqb}
 use Rattle.grammar.specs.Words.{spelled, same}
 use Rattle.classfile.specs.Heads.{class_record, judge_name, add_state}
 use Rattle.classfile.specs.Reads.{alone, begun, used, ended, ended_buffer, lined, lined_buffer, Stands, Added, Named, Commanded, classed, stated, on_judged, on_grown}
@@ -23,7 +20,7 @@ use Rattle.classfile.specs.declared.heads.Used.{Used}
 use Rattle.classfile.specs.declared.heads.Line.{Line}
 use Rattle.classfile.specs.declared.heads.Line.TheVariants.{Begins, Names, Commands, Class, States}
 use Rattle.classfile.specs.declared.heads.Turn.{Turn}
-use Rattle.classfile.specs.declared.heads.Turn.TheVariants.{On, Over, Bad}
+use Rattle.classfile.specs.declared.heads.Turn.TheVariants.{On, Bad}
 
 -- the first word of a line, by its tests
 module _ (u : Used) (w : List ℕ) where

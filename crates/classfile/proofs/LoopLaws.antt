@@ -5,17 +5,15 @@ use native.Mathlib.Omega.{arith}
 use mathlib.Core.Path.{◌≡◌, refl, sym, ◌∙◌, ap, subst}
 use mathlib.Core.Bool.{Bool}
 use mathlib.Core.List.{List, [], ◌∷◌, ◌++◌}
-use lib.Dec.{eqb}
 use lib.ListN.{length, take, drop, take-append-drop}
 use lib.Seq.{drop-drop, length-take-le}
 use borrow.Author.Tests.{eq-eqb, ne_eqb}
 use Rattle.model.specs.Words.{choose}
 use Rattle.naming.specs.NameLists.{Lists}
-use Rattle.lists.specs.Lent.{lent}
-use Rattle.classfile.specs.Fields.{Field, field, file_kind, fields_from, behind, Next}
+use Rattle.classfile.specs.Fields.{Field, field, fields_from, behind, Next}
 use Rattle.classfile.specs.Heads as H
 use Rattle.classfile.specs.Heads.{Rooms, Outcome, read, wrong, reads, head_of}
-use Rattle.classfile.specs.Reads.{used, Fits, Stands, shown, told, Behind, Same, Kept, Going, Turned, rooms, FieldTurned, answer_of, lists_of, over, HeadRead, Inside}
+use Rattle.classfile.specs.Reads.{used, Fits, Stands, shown, told, Behind, Same, Kept, Going, rooms, FieldTurned, answer_of, lists_of, over, HeadRead, Inside}
 use Rattle.classfile.specs.declared.parts.Fault.{Fault}
 use Rattle.classfile.specs.declared.parts.Fault.TheVariants.{NoEmptyLine}
 use Rattle.classfile.specs.declared.heads.Used.{Used}

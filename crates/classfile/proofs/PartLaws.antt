@@ -6,12 +6,12 @@ use native.Mathlib.Nat.{one-mul}
 use lib.Pow.{shl_exact}
 use mathlib.Core.Path.{◌≡◌, refl, sym, ◌∙◌, ap}
 use mathlib.Core.Bool.{Bool, true, false}
-use mathlib.Core.List.{List, ◌++◌}
-use lib.Dec.{eqb, ltb}
+use mathlib.Core.List.{List}
+use lib.Dec.{ltb}
 use lib.ListN.{length, take, length-take}
 use lib.Seq.{sets}
 use lib.Bits.{bit_or}
-use borrow.Author.Tests.{lt-ltb, le-ltb, ltb-false}
+use borrow.Author.Tests.{lt-ltb, le-ltb}
 use Rattle.model.specs.Words.{choose, has}
 use Rattle.model.proofs.Words.{clash}
 use Rattle.grammar.specs.Words.{is_name, position}
@@ -23,12 +23,11 @@ use Rattle.pen.specs.Writing.{Puts}
 use Rattle.pen.proofs.Puts.{puts_on}
 use Rattle.laying.specs.Laying.{number_bytes}
 use Rattle.classfile.specs.Heads.{judge_name, with_number, add_state, class_record}
-use Rattle.classfile.specs.Reads.{Added, if_fine}
+use Rattle.classfile.specs.Reads.{Added}
 use Rattle.classfile.specs.declared.parts.Fault.{Fault}
 use Rattle.classfile.specs.declared.parts.Fault.TheVariants.{NoName, NameTwice, TooMany, NotListed}
 use Rattle.classfile.specs.declared.parts.Judged.{Judged}
 use Rattle.classfile.specs.declared.parts.Judged.TheVariants as J
-use Rattle.classfile.specs.declared.parts.Grown.{Grown}
 use Rattle.classfile.specs.declared.parts.Grown.TheVariants as G
 
 -- a name that was found is listed

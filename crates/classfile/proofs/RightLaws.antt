@@ -1,6 +1,6 @@
 -- The lists of a head that is read are right.
 -- Assumes nothing.
-use Prim.Native.Nat.{ℕ, zero, suc, ◌+◌, ◌-◌, ◌*◌, ◌/◌, ◌%◌, ◌^◌, ◌<◌, ◌≤◌}
+use Prim.Native.Nat.{ℕ, suc, ◌+◌, ◌-◌, ◌*◌, ◌/◌, ◌%◌, ◌^◌, ◌<◌, ◌≤◌}
 use native.Mathlib.Omega.{arith}
 use native.Mathlib.Nat.{mul-div_cancel, mul-mod_left, mul-le-mul_right}
 use mathlib.Core.Path.{◌≡◌, refl, sym, ◌∙◌, ap, subst}
@@ -13,22 +13,21 @@ use lib.Seq.{take_all, take-append-le, take-append_seam, drop-append-le, drop_at
 use lib.Bits.{bit_or, or_lt}
 use lib.Pow.{pow-lt}
 use borrow.Author.Tests.{eq-eqb, eqb-true, ltb-true, lt-ltb, ltb-false}
-use Rattle.model.specs.Words.{choose, every, some_in, listed, each, has}
-use Rattle.model.proofs.Words.{clash, true_not_false, and_left, and_right, and_both, or_either, or_first, or_second, each_intro, each_elim}
+use Rattle.model.specs.Words.{choose, every, some_in, listed, has}
+use Rattle.model.proofs.Words.{clash, and_left, and_right, and_both, or_either, or_first, or_second, each_intro, each_elim}
 use Rattle.model.proofs.Lists.{length_listed, listed_more, listed_same}
 use Rattle.model.proofs.Bits.{has_none}
 use Rattle.model.proofs.Masks.{has_or, has_pow}
 use Rattle.records.specs.Bytes.{u32}
 use Rattle.records.proofs.Bytes.{u32_take}
 use Rattle.grammar.specs.Words.{spelled, is_name, same, position}
-use Rattle.naming.specs.NameLists.{Lists, padded, record_right, records_in, none_twice, list_right, child_names, class_sets, bits_named, lists_right, number_in, listed_in}
+use Rattle.naming.specs.NameLists.{Lists, padded, record_right, records_in, none_twice, list_right, class_sets, bits_named, lists_right, number_in, listed_in}
 use Rattle.naming.proofs.TableLaws.{length_padded, padded_right}
 use Rattle.laying.specs.Laying.{number_bytes, entry}
 use Rattle.lists.specs.Lent.{lent, name_record}
 use Rattle.classfile.specs.Fields.{Field, line_kind, file_kind, fields_from}
 use Rattle.classfile.specs.Heads as H
 use Rattle.classfile.specs.Heads.{stretch, judge_name, with_number, add_state, class_record, Rooms, judged, grown, Outcome, read, wrong, reads, head_of}
-use Rattle.classfile.specs.declared.parts.Fault.{Fault}
 use Rattle.classfile.specs.declared.parts.Fault.TheVariants.{UnknownLine, LineTwice, NoStates, NoEmptyLine, NameTwice, TooMany, NotListed}
 use Rattle.classfile.specs.declared.parts.Judged.{Judged}
 use Rattle.classfile.specs.declared.parts.Judged.TheVariants as J
@@ -36,7 +35,7 @@ use Rattle.classfile.specs.declared.parts.Grown.{Grown}
 use Rattle.classfile.specs.declared.parts.Grown.TheVariants as G
 use Rattle.classfile.specs.declared.heads.Line.{Line}
 use Rattle.classfile.specs.declared.heads.Line.TheVariants.{Begins, Names, Commands, Class, States}
-use Rattle.classfile.proofs.TurnLaws.{Fine, fine_is}
+use Rattle.classfile.proofs.TurnLaws.{fine_is}
 
 -- the last of the entries from 0 on
 listed_last : {A : Type 0} (k : ℕ) (f : ℕ → A) → listed 0 (suc k) f ≡ listed 0 k f ++ (f k ∷ [])

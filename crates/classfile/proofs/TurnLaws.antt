@@ -1,10 +1,10 @@
 -- What the code's turns come to in lists.
 -- Assumes nothing.
-use Prim.Native.Nat.{ℕ, ◌+◌, ◌-◌, ◌<◌, ◌≤◌, min}
+use Prim.Native.Nat.{ℕ, ◌+◌, ◌-◌, ◌≤◌, min}
 use native.Mathlib.Omega.{arith}
 use mathlib.Core.Path.{◌≡◌, refl, sym, ◌∙◌, ap, subst}
 use mathlib.Core.Bool.{Bool, true, false, ◌&&◌}
-use mathlib.Core.List.{List, [], ◌∷◌, ◌++◌}
+use mathlib.Core.List.{List, ◌++◌}
 use lib.Dec.{eqb, ltb, leb}
 use lib.ListN.{length, take, drop, length-take, length-drop, length-append}
 use lib.Seq.{sets, sets-eq, take_at, drop_at, length-sets, length-take-le}
@@ -13,15 +13,15 @@ use Rattle.model.specs.Words.{choose, every, listed}
 use Rattle.model.proofs.Words.{clash, and_left, and_right}
 use Rattle.model.proofs.Lists.{length_listed}
 use Rattle.grammar.specs.Words.{spelled, same, is_name, name_char, position, fixed_words, bare_runs}
-use Rattle.naming.specs.NameLists.{Lists, padded, records_in, listed_in}
+use Rattle.naming.specs.NameLists.{padded, records_in, listed_in}
 use Rattle.naming.proofs.TableLaws.{length_padded}
 use Rattle.laying.specs.Laying.{number_bytes, entry}
 use Rattle.lists.specs.Lent.{lent}
 use Rattle.classfile.specs.Heads as H
 use Rattle.classfile.specs.Heads.{stretch, judge_name, add_state, class_record, Rooms, judged, grown}
-use Rattle.classfile.specs.Reads.{alone, begun, used, Added, Named, Commanded, classed, stated, on_judged, on_grown, if_fine, ended, ended_buffer, lined, lined_buffer, Fits, Stands, shown, told, Behind, Same, Kept, Going, Turned, rooms, Worded, FieldTurned}
+use Rattle.classfile.specs.Reads.{begun, used, Added, Named, Commanded, classed, stated, on_judged, on_grown, ended, ended_buffer, lined, lined_buffer, Fits, Stands, shown, Turned, rooms, Worded, FieldTurned}
 use Rattle.classfile.specs.declared.parts.Fault.{Fault}
-use Rattle.classfile.specs.declared.parts.Fault.TheVariants.{UnknownLine, LineTwice, NoName, NameTwice, TooMany, NotListed, NoClass, NoStates}
+use Rattle.classfile.specs.declared.parts.Fault.TheVariants.{UnknownLine, LineTwice, NoName, NameTwice, TooMany, NoClass, NoStates}
 use Rattle.classfile.specs.declared.parts.Judged.{Judged}
 use Rattle.classfile.specs.declared.parts.Judged.TheVariants as J
 use Rattle.classfile.specs.declared.parts.Grown.{Grown}

@@ -1,6 +1,6 @@
 -- A file cut into fields: the words of its lines, the ends of its lines, and the end of the file.
 -- Assumes nothing.
-use Rattle.std.specs.Prelude.{ℕ, zero, suc, ◌+◌, ◌<◌, ◌≤◌, ◌≡◌, Bool, true, false, ◌||◌, List, [], ◌∷◌, eqb, length, get_or, drop}
+use Rattle.std.specs.Prelude.{ℕ, zero, suc, ◌+◌, ◌<◌, ◌≤◌, ◌≡◌, Bool, false, ◌||◌, List, [], ◌∷◌, eqb, length, get_or, drop}
 use Rattle.model.specs.Words.{choose}
 
 -- white space within a line: blank, tab, carriage return

@@ -1,0 +1,8 @@
+use Rattle.classfile.proofs.HeadLaws.{commanded_fine, commanded_bad}
+use Rattle.classfile.proofs.heads.command_word.Goals as goal
+
+pub returns-in-Fine : goal.returns-in-Fine
+returns-in-Fine c = commanded_fine _ _ _ _ _ c.add_name-judged.ensures c.in-Fine.is
+
+pub returns-in-Bad : goal.returns-in-Bad
+returns-in-Bad c = commanded_bad _ _ _ _ _ c.add_name-judged.ensures _ c.in-Bad.is
