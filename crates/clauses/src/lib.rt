@@ -1,6 +1,7 @@
 // The bodies of states and of action clauses: each state says how many clauses it has, each action clause its command and how many statements.
 // They are counted ahead, in the words behind.
 #![tactic(auto)]
+
 ghost use Rattle.std.specs.Prelude.{◌≡◌, [], ◌∷◌};
 ghost use Rattle.encoding.specs.Records.{fours};
 ghost use Rattle.encoding.specs.Encoding.{state_bytes};
