@@ -1,5 +1,6 @@
 // The statements of an action clause as text, line by line, written into a lent buffer from a place on; the place behind them is answered.
 #![tactic(auto)]
+
 ghost use Rattle.std.specs.Prelude.{◌≡◌};
 ghost use Rattle.records.specs.Patterns.{pattern_as};
 ghost use Rattle.bodies.specs.StatementReaders.{statement_record};
