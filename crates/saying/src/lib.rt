@@ -1,6 +1,7 @@
 // Says why a file is refused: one line on standard error. What a program can say of its files stands in lines of its own; what is said of
 // the head of a class file is the same in all of them.
 #![tactic(auto)]
+
 pub mod heads;
 pub mod places;
 
