@@ -1,5 +1,6 @@
 // The text of an accepted sheet's class, written into a lent buffer from a place on, as far as it reaches; the place behind it is answered.
 #![tactic(auto)]
+
 ghost use Rattle.std.specs.Prelude.{◌<◌};
 ghost use Rattle.model.specs.Answers.{referrer_as};
 ghost use Rattle.records.specs.Bytes.{in_fours};

@@ -1,0 +1,48 @@
+-- `put_actions` meets its contract. The loop's invariant: whoever writes the clauses that are left has written all.
+-- Assumes nothing.
+use Prim.Native.Nat.{◌+◌, ◌-◌}
+use native.Mathlib.Omega.{arith}
+use Rattle.model.specs.Words.{listed}
+use Rattle.sheet.specs.Contents.{bodies}
+use Rattle.encoding.specs.Encoding.{gathered}
+use Rattle.lists.specs.Lent.{lent}
+use Rattle.pen.proofs.Puts.{Going, going_none, going_on, going_end}
+use Rattle.sheet.specs.Reading.{action_in}
+use Rattle.writings.specs.Layout.{action_text}
+use Rattle.classtext.proofs.ClassLaws.{one_less, none_left, actions_start, action_inside}
+use Rattle.classtext.proofs.put_actions.Goals as goal
+
+pub clauses_of-clauses-requires : goal.clauses_of-clauses-requires
+clauses_of-clauses-requires c = (c.requires.stands, omega arith)
+
+pub loop-i-init : goal.loop-i-init
+loop-i-init c = going_none _ _ _ (omega arith)
+
+pub overflow_add-first : goal.overflow_add-first
+overflow_add-first c =
+    let t = c.loop-i-test.true in
+    omega (arith, c.clauses_of-clauses.ensures.first_small, c.clauses_of-clauses.ensures.count_small)
+
+pub put_action-end-requires-clause-stands : goal.put_action-end-requires-clause-stands
+put_action-end-requires-clause-stands c = c.requires.stands
+
+pub put_action-end-requires-clause-a_bound : goal.put_action-end-requires-clause-a_bound
+put_action-end-requires-clause-a_bound c =
+    let x = c.requires in
+    let y = c.clauses_of-clauses.ensures in
+    action_inside _ _ x.stands _ _ _ _ x.q_bound y.first_is y.count_is c.loop-i-test.true
+
+pub overflow_add-i : goal.overflow_add-i
+overflow_add-i c = omega (arith, c.loop-i-test.true, c.clauses_of-clauses.ensures.count_small)
+
+pub loop-i-smaller : goal.loop-i-smaller
+loop-i-smaller c = omega (arith, c.loop-i-test.true)
+
+pub loop-i-preserved : goal.loop-i-preserved
+loop-i-preserved c = going_on c.loop-i.invariant (one_less _ _ _ _ _ c.loop-i-test.true) c.put_action-end.ensures
+
+pub returns : goal.returns
+returns c =
+    let x = c.args in
+    let e = actions_start x.sheet.now x.q.0 x.own.now (lent x.names.now x.commands.now x.classes.now) _ _ c.clauses_of-clauses.ensures.first_is c.clauses_of-clauses.ensures.count_is in
+    rw e (going_end c.loop-i.invariant (none_left _ _ _ _ _ c.loop-i-test.false) (omega (arith, c.well_formed)))

@@ -1,0 +1,21 @@
+-- `put_actions` meets its contract. The loop's invariant: whoever writes the clauses that are left has written all.
+-- Assumes nothing.
+use Prim.Native.Nat.{◌+◌, ◌-◌}
+use native.Mathlib.Omega.{arith}
+use Rattle.model.specs.Words.{listed}
+use Rattle.sheet.specs.Contents.{bodies}
+use Rattle.encoding.specs.Encoding.{gathered}
+use Rattle.lists.specs.Lent.{lent}
+use Rattle.pen.proofs.Puts.{Going, going_none, going_on, going_end}
+use Rattle.sheet.specs.Reading.{action_in}
+use Rattle.writings.specs.Layout.{action_text}
+use Rattle.classtext.proofs.ClassLaws.{one_less, none_left, actions_start, action_inside}
+use Rattle.classtext.proofs.put_actions.Given as goal
+
+abbrev pub invariant-loop-i : goal.invariant-loop-i
+invariant-loop-i l =
+    Going (gathered (action_text l.own (lent l.names l.commands l.classes)) (listed (l.first + 0) (l.n - 0) (action_in (bodies l.sheet)))) l.initial.out l.at
+    (gathered (action_text l.own (lent l.names l.commands l.classes)) (listed (l.first + l.i) (l.n - l.i) (action_in (bodies l.sheet)))) l.out l.end
+
+abbrev pub decreases-loop-i : goal.decreases-loop-i
+decreases-loop-i l = l.n - l.i

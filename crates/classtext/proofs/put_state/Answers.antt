@@ -1,0 +1,16 @@
+-- The words of a state, its when clauses and its action clauses, one behind the other.
+-- Assumes nothing.
+use mathlib.Core.Path.{◌∙◌}
+use Rattle.model.specs.Words.{listed}
+use Rattle.grammar.specs.Words.{spelled}
+use Rattle.pen.proofs.Puts.{puts_length}
+use Rattle.classtext.proofs.ClassLaws.{state_puts}
+use borrow.Author.Rules.{rules}
+use Rattle.classtext.proofs.put_state.Goals as goal
+
+pub put_actions-requires : goal.put_actions-requires
+put_actions-requires c = c.requires
+
+pub returns : goal.returns
+unfolding listed spelled
+returns c = state_puts _ _ _ _ c.put_indent-a.ensures c.put_bytes-b.ensures c.put_name-c.ensures c.put_bytes-d.ensures c.put_whens-e.ensures c.put_actions.ensures

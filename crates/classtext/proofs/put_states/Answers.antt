@@ -1,0 +1,42 @@
+-- `put_states` meets its contract. The loop's invariant: whoever writes the states that are left has written all.
+-- Assumes nothing.
+use Prim.Native.Nat.{◌-◌}
+use native.Mathlib.Omega.{arith}
+use Rattle.model.specs.Words.{listed}
+use Rattle.sheet.specs.Contents.{bodies}
+use Rattle.sheet.specs.Reading.{class_of, state_in}
+use Rattle.lists.specs.Lent.{lent}
+use Rattle.pen.proofs.Puts.{Going, going_none, going_on, going_end}
+use Rattle.writings.specs.Layout.{states_text}
+use Rattle.classtext.proofs.ClassLaws.{states_start, state_less, no_state_left}
+use Rattle.classtext.proofs.put_states.Goals as goal
+
+pub state_count-n-requires : goal.state_count-n-requires
+state_count-n-requires c = c.requires
+
+pub loop-q-init : goal.loop-q-init
+loop-q-init c =
+    let x = c.args in
+    let e = states_start x.sheet.now x.own.now (lent x.names.now x.commands.now x.classes.now) _ c.state_count-n.ensures.0 in
+    rw (← e) (going_none _ _ _ (omega arith))
+
+pub overflow_cast-here : goal.overflow_cast-here
+overflow_cast-here c = omega (arith, c.loop-q-test.true, c.state_count-n.ensures.1)
+
+pub put_state-end-requires-clause-stands : goal.put_state-end-requires-clause-stands
+put_state-end-requires-clause-stands c = c.requires
+
+pub put_state-end-requires-clause-q_bound : goal.put_state-end-requires-clause-q_bound
+put_state-end-requires-clause-q_bound c = omega (arith, c.loop-q-test.true, c.state_count-n.ensures.0)
+
+pub overflow_add-q : goal.overflow_add-q
+overflow_add-q c = omega (arith, c.loop-q-test.true, c.state_count-n.ensures.1)
+
+pub loop-q-smaller : goal.loop-q-smaller
+loop-q-smaller c = omega (arith, c.loop-q-test.true)
+
+pub loop-q-preserved : goal.loop-q-preserved
+loop-q-preserved c = going_on c.loop-q.invariant (state_less _ _ _ _ _ c.loop-q-test.true) c.put_state-end.ensures
+
+pub returns : goal.returns
+returns c = going_end c.loop-q.invariant (no_state_left _ _ _ _ _ c.loop-q-test.false) (omega (arith, c.well_formed))

@@ -1,0 +1,26 @@
+-- The words of a when clause, one behind the other.
+-- Assumes nothing.
+use native.Mathlib.Omega.{arith}
+use mathlib.Core.Path.{◌∙◌}
+use Rattle.model.specs.Words.{listed}
+use Rattle.grammar.specs.Words.{spelled}
+use Rattle.pen.proofs.Puts.{puts_length}
+use Rattle.classtext.proofs.ClassLaws.{when_small, when_puts}
+use borrow.Author.Rules.{rules}
+use Rattle.classtext.proofs.put_when.Goals as goal
+
+pub guard_place-requires : goal.guard_place-requires
+guard_place-requires c = when_small _ _ c.requires.stands _ _ c.requires.when_of
+
+pub clauses_of-clauses-requires : goal.clauses_of-clauses-requires
+clauses_of-clauses-requires c = (c.requires.stands, omega arith)
+
+pub body_of-actions-requires : goal.body_of-actions-requires
+body_of-actions-requires c = (c.requires.stands, omega arith)
+
+pub referrer_at-referrer-requires : goal.referrer_at-referrer-requires
+referrer_at-referrer-requires c = when_small _ _ c.requires.stands _ _ c.requires.when_of
+
+pub returns : goal.returns
+unfolding listed spelled
+returns c = when_puts _ _ c.requires.stands _ _ c.requires.when_of _ _ _ _ _ _ _ _ c.body_of-guards.ensures c.body_of-whens.ensures c.body_of-actions.ensures c.guard_place.ensures c.clauses_of-clauses.ensures.first_is c.referrer_at-referrer.ensures c.put_indent-a.ensures c.put_bytes-b.ensures c.put_guard-c.ensures c.put_bytes-d.ensures c.put_referrer-e.ensures c.put_bytes.ensures

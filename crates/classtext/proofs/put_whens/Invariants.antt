@@ -1,0 +1,22 @@
+-- `put_whens` meets its contract. The loop's invariant: whoever writes the clauses that are left has written all.
+-- Assumes nothing.
+use Prim.Native.Nat.{◌+◌, ◌-◌}
+use native.Mathlib.Omega.{arith}
+use Rattle.model.specs.Words.{listed}
+use Rattle.sheet.specs.Contents.{bodies}
+use Rattle.encoding.specs.Encoding.{gathered}
+use Rattle.lists.specs.Lent.{lent}
+use Rattle.pen.proofs.Puts.{Going, going_none, going_on, going_end}
+use Rattle.sheet.specs.Reading.{when_in}
+use Rattle.writings.specs.Layout.{when_text}
+use Rattle.classtext.specs.ClassText.{own_actions, whens_text}
+use Rattle.classtext.proofs.ClassLaws.{one_less, none_left, whens_start, when_of_state}
+use Rattle.classtext.proofs.put_whens.Given as goal
+
+abbrev pub invariant-loop-i : goal.invariant-loop-i
+invariant-loop-i l =
+    Going (whens_text l.sheet l.q.0 l.own (lent l.names l.commands l.classes)) l.initial.out l.at
+    (gathered (when_text l.own (lent l.names l.commands l.classes) l.q.0 (own_actions l.sheet l.q.0)) (listed (l.first + l.i) (l.n - l.i) (when_in (bodies l.sheet)))) l.out l.end
+
+abbrev pub decreases-loop-i : goal.decreases-loop-i
+decreases-loop-i l = l.n - l.i
