@@ -1,6 +1,5 @@
 -- `has_one` meets its contract: there is a first name, and none behind it.
 -- Assumes nothing.
-use borrow.Author.Rules.{rules}
 use Rattle.spelling.proofs.SpellingLaws.{none_at_all, one_told}
 use Rattle.spelling.proofs.has_one.Goals as goal
 

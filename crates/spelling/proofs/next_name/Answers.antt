@@ -1,10 +1,8 @@
 -- `next_name` meets its contract. The loop's invariant, `Looking`: the set's numbers from its start on are those from i on.
 -- Assumes nothing.
-use Prim.Native.Nat.{◌-◌}
 use native.Mathlib.Omega.{arith}
 use mathlib.Core.Path.{refl}
-use borrow.Author.Rules.{rules}
-use Rattle.spelling.proofs.SpellingLaws.{Looking, looking_on, looking_found, looking_over}
+use Rattle.spelling.proofs.SpellingLaws.{looking_on, looking_found, looking_over}
 use Rattle.spelling.proofs.next_name.Goals as goal
 
 pub loop-i-init : goal.loop-i-init

@@ -1,6 +1,5 @@
 -- `put_braced` meets its contract: one run of bytes behind another.
 -- Assumes nothing.
-use borrow.Author.Rules.{rules}
 use Rattle.spelling.proofs.SpellingLaws.{braces}
 use Rattle.spelling.proofs.put_braced.Goals as goal
 

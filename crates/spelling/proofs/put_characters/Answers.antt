@@ -1,6 +1,5 @@
 -- `put_characters` writes the characters, which are the bytes that it cuts off.
 -- Assumes nothing.
-use borrow.Author.Rules.{rules}
 use Rattle.pen.proofs.Puts.{puts_as}
 use Rattle.lists.proofs.RecordLaws.{front_is}
 use Rattle.spelling.proofs.put_characters.Goals as goal

@@ -1,11 +1,7 @@
 -- `put_commas` meets its contract. The loop's invariant: whoever writes the names from i on has written all.
 -- Assumes nothing.
-use Prim.Native.Nat.{◌-◌}
 use native.Mathlib.Omega.{arith}
-use borrow.Author.Rules.{rules}
-use Rattle.pen.proofs.Puts.{puts_on, Going, going_none, going_on, going_end}
-use Rattle.writings.specs.Layout.{commas}
-use Rattle.spelling.specs.Spelling.{names_from}
+use Rattle.pen.proofs.Puts.{puts_on, going_none, going_on, going_end}
 use Rattle.spelling.proofs.SpellingLaws.{commas_on, commas_over}
 use Rattle.spelling.proofs.put_commas.Goals as goal
 

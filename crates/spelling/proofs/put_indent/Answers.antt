@@ -1,9 +1,7 @@
 -- `put_indent` meets its contract. The loop's invariant: whoever writes the levels that are left has written all.
 -- Assumes nothing.
 use native.Mathlib.Omega.{arith}
-use borrow.Author.Rules.{rules}
-use Rattle.pen.proofs.Puts.{Going, going_none, going_on, going_end}
-use Rattle.writings.specs.Layout.{indent}
+use Rattle.pen.proofs.Puts.{going_none, going_on, going_end}
 use Rattle.spelling.proofs.SpellingLaws.{level_on, level_none}
 use Rattle.spelling.proofs.put_indent.Goals as goal
 

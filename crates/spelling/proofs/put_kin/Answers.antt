@@ -1,6 +1,5 @@
 -- `put_kin` meets its contract, for all children and for those of a class.
 -- Assumes nothing.
-use borrow.Author.Rules.{rules}
 use Rattle.pen.proofs.Puts.{puts_as}
 use Rattle.model.specs.Words.{listed}
 use Rattle.grammar.specs.Words.{spelled}

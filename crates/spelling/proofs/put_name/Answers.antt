@@ -1,9 +1,7 @@
 -- `put_name` meets its contract: nothing is written past the end of the list.
 -- Assumes nothing.
 use native.Mathlib.Omega.{arith}
-use borrow.Author.Rules.{rules}
 use Rattle.pen.proofs.Puts.{puts_none, puts_as}
-use Rattle.lists.specs.Lent.{name_record}
 use Rattle.naming.specs.NameLists.{characters}
 use mathlib.Core.Path.{ap, ◌∙◌}
 use Rattle.spelling.proofs.SpellingLaws.{name_there, name_past}

@@ -1,7 +1,6 @@
 -- `put_row` meets its contract: the first name, and the others behind their commas.
 -- Assumes nothing.
 use native.Mathlib.Omega.{arith}
-use borrow.Author.Rules.{rules}
 use Rattle.pen.proofs.Puts.{puts_none, puts_on, puts_as}
 use Rattle.spelling.proofs.SpellingLaws.{row_on, row_over}
 use Rattle.spelling.proofs.put_row.Goals as goal

@@ -1,6 +1,5 @@
 -- `put_set` meets its contract, for a set of one name and for any other.
 -- Assumes nothing.
-use borrow.Author.Rules.{rules}
 use Rattle.pen.proofs.Puts.{puts_as}
 use Rattle.spelling.proofs.SpellingLaws.{set_alone, set_not_alone}
 use Rattle.spelling.proofs.put_set.Goals as goal
