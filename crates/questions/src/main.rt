@@ -11,7 +11,7 @@ ghost use Rattle.io.specs.Counts.{IsPrefixLen};
 ghost use Rattle.questions.specs.Inputs.{Inside};
 
 use asking::answer;
-use libc::{STDIN_FILENO, STDOUT_FILENO};
+use std::io::{Read, Stdin};
 use texts::reading::find;
 use texts::writing::{append_byte, append_bytes};
 
@@ -28,16 +28,16 @@ pub struct Input {
 fn respond(line: &[u8], out: &mut [u8]) -> bool {
     let end = answer(line, out);
     let stop = append_byte(out, end, b'\n');
-    io::write_all(STDOUT_FILENO, &out[..stop])
+    io::write_all(1, &out[..stop])
 }
 
 // The next chunk. Where there is none, the input is over, and a last line may have ended with no line feed.
-fn refill(waiting: usize, chunk: &mut [u8], line: &[u8], out: &mut [u8]) -> Input
+fn refill(mut stdin: Stdin, waiting: usize, chunk: &mut [u8], line: &[u8], out: &mut [u8]) -> Input
     requires { IsPrefixLen waiting line.now }
     ensures { Inside result chunk.new line.now }
 {
-    let got = libc::read(STDIN_FILENO, chunk);
-    let n = io::count(got, chunk);
+    let got = stdin.read(chunk);
+    let n = got.unwrap_or(0);
     if n == 0 {
         if 0 < waiting {
             respond(&line[..waiting], out);
@@ -58,7 +58,7 @@ fn refill(waiting: usize, chunk: &mut [u8], line: &[u8], out: &mut [u8]) -> Inpu
 }
 
 // One turn: a further chunk is read, or the bytes up to a line feed or the chunk's end are taken, and a line that is whole is answered.
-fn turn(s: Input, chunk: &mut [u8], line: &mut [u8], out: &mut [u8]) -> Input
+fn turn(stdin: Stdin, s: Input, chunk: &mut [u8], line: &mut [u8], out: &mut [u8]) -> Input
     requires { Inside s chunk.old line.old }
     ensures { Inside result chunk.new line.new }
 {
@@ -66,7 +66,7 @@ fn turn(s: Input, chunk: &mut [u8], line: &mut [u8], out: &mut [u8]) -> Input
     let end = s.end;
     let waiting = s.waiting;
     if at == end {
-        return refill(waiting, chunk, line, out);
+        return refill(stdin, waiting, chunk, line, out);
     }
     let stop = find(&chunk[..end], at, b'\n');
     let taken = append_bytes(line, waiting, &chunk[at..stop]);
@@ -88,7 +88,7 @@ fn turn(s: Input, chunk: &mut [u8], line: &mut [u8], out: &mut [u8]) -> Input
 }
 
 // A proved loop has to end, and nothing says that the input does: the turns are counted down from a number that no run uses up.
-fn main() {
+fn main(rt: HostRuntime) {
     let mut chunk = [0u8; 65536];
     let mut line = [0u8; 1048577];
     let mut out = [0u8; 1048832];
@@ -103,7 +103,7 @@ fn main() {
         if s.over {
             return;
         }
-        s = turn(s, &mut chunk, &mut line, &mut out);
+        s = turn(rt.stdin(), s, &mut chunk, &mut line, &mut out);
         turns = turns - 1;
     }
 }
