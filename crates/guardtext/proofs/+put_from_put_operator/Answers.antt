@@ -1,14 +1,10 @@
 -- `put_from` and `put_operator` write the text of the guard that the rules read: a law for each way out. The records left fall from a guard
 -- to its operands, the operators left on the path from an operator to each operand.
 -- Assumes nothing.
-use borrow.Author.Rules.{rules}
-use Prim.Native.Nat.{ℕ, ◌<◌, ◌+◌, ◌-◌, ◌/◌}
 use native.Mathlib.Omega.{arith}
-use mathlib.Core.Path.{◌≡◌, refl, sym, ◌∙◌, ap}
-use lib.ListN.{length}
+use mathlib.Core.Path.{refl, sym, ◌∙◌, ap}
 use Rattle.model.specs.Words.{listed}
 use Rattle.grammar.specs.Words.{spelled}
-use Rattle.records.specs.GuardRecords.{guard_record}
 use Rattle.records.specs.Records.{record_as}
 use borrow.Enum.Refused.{opened}
 use Rattle.records.proofs.GuardLaws.{known_there}

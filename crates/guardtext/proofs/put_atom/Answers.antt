@@ -1,6 +1,5 @@
 -- `put_atom` meets its contract: six runs of bytes, one behind the other.
 -- Assumes nothing.
-use borrow.Author.Rules.{rules}
 use Rattle.model.specs.Words.{listed}
 use Rattle.grammar.specs.Words.{spelled}
 use Rattle.guardtext.proofs.GuardTextLaws.{atom_all}

@@ -2,7 +2,6 @@
 -- Assumes nothing.
 use mathlib.Core.Path.{sym, ap}
 use native.Mathlib.Omega.{arith}
-use borrow.Author.Rules.{rules}
 use Rattle.model.specs.Words.{listed}
 use Rattle.grammar.specs.Words.{spelled}
 use Rattle.pen.proofs.Puts.{puts_none, puts_as}

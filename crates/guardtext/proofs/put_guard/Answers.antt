@@ -1,6 +1,5 @@
 -- `put_guard` meets its contract: where a guard begins at the place, its text is written.
 -- Assumes nothing.
-use borrow.Author.Rules.{rules}
 use Rattle.guardtext.proofs.GuardTextLaws.{guard_written, guard_broken}
 use Rattle.guardtext.proofs.put_guard.Goals as goal
 

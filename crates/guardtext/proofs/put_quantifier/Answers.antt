@@ -1,7 +1,6 @@
 -- `put_quantifier` meets its contract, kind by kind.
 -- Assumes nothing.
 use mathlib.Core.Path.{sym, ap}
-use borrow.Author.Rules.{rules}
 use Rattle.model.specs.Words.{listed}
 use Rattle.grammar.specs.Words.{spelled}
 use Rattle.pen.proofs.Puts.{puts_as}
