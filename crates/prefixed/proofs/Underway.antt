@@ -103,7 +103,7 @@ module _ (text names classes : List ℕ) where
         ∙ ap (λ (m : Mark). walked N C rest (turn N C m rest w)) (ap mark_of (kind_as kind (stretch text start end)) ∙ sym e)
 
     pub underway_more : (mark : Mark) (r : Stand) (after_bytes after_keys : List ℕ) → (kind ≡ 26 → ⊥) → mark ≡ mark_of kind → length after_keys ≡ length keys → length after_bytes ≡ length bytes
-        → Turned s r keys bytes after_keys after-bytes (turn N C mark (tokens_from text end)) → Underway text names classes size after_bytes after_keys r end
+        → Turned s r keys bytes after_keys after_bytes (turn N C mark (tokens_from text end)) → Underway text names classes size after_bytes after_keys r end
     underway_more mark r after_bytes after_keys z e a b t =
         let g = goes text at kind start end n z in
         let low = u.low in
