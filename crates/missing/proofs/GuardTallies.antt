@@ -11,7 +11,7 @@ use Rattle.model.specs.Words.{each, has}
 use Rattle.model.specs.Tree.{Guard, both, either, opposite}
 use Rattle.model.proofs.Words.{choose_case}
 use Rattle.records.specs.Bytes.{byte, record_at}
-use Rattle.records.specs.GuardRecords.{Read, got, broken, Operator, two, one, Record, leaf, operator, unknown, operator_of, record_of, guard_record, joined as joined-read, shaped, guard_with, guard_at, guard_from}
+use Rattle.records.specs.GuardRecords.{Read, got, broken, Operator, two, one, Record, leaf, operator, unknown, operator_of, record_of, guard_record, joined as joined_read, shaped, guard_with, guard_at, guard_from}
 use Rattle.records.specs.Ends.{end_of}
 use Rattle.records.specs.declared.guards.End.TheVariants.{At, Broken}
 use Rattle.records.proofs.GuardLaws.{read_case, known_there, end_got, end_broken}

@@ -1,6 +1,7 @@
 // Refusals 17 and 19 of the class text, on an accepted sheet: no name is missing that is to be written, and there are at most 1,024 guard
 // records to write. One walk over the when clauses, the action clauses and the statements tells both.
 #![tactic(auto)]
+
 ghost use Rattle.std.specs.Prelude.{◌≡◌, ◌+◌, ◌<◌, ◌≤◌, ◌/◌, length};
 ghost use Rattle.records.specs.GuardRecords.{guard_record};
 ghost use Rattle.sheet.specs.Verdict.{Stands};

@@ -1,0 +1,12 @@
+-- `sets_alike` meets its contract. The loop's invariant, `Alike`: the first i sets are the same, and the others decide.
+-- Assumes nothing.
+use Prim.Native.Nat.{◌-◌}
+use borrow.Author.Rules.{rules}
+use Rattle.missing.proofs.SetLaws.{Alike, sets_more, sets_start, sets_over, sets_on, sets_differ}
+use Rattle.missing.proofs.sets_alike.Given as goal
+
+abbrev pub invariant-loop-i : goal.invariant-loop-i
+invariant-loop-i l = Alike l.classes l.sets l.n l.i
+
+abbrev pub decreases-loop-i : goal.decreases-loop-i
+decreases-loop-i l = l.n - l.i
