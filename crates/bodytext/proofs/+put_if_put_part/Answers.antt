@@ -1,11 +1,8 @@
 -- `put_part` writes one statement after the other, and `put_if` an if with its parts: a law for each way out.
 -- With each call the bytes get fewer, but for the call of `put_if`, whose measure is one less on the same bytes.
 -- Assumes nothing.
-use borrow.Author.Rules.{rules}
-use Prim.Native.Nat.{ℕ, ◌+◌, ◌*◌, ◌<◌}
 use native.Mathlib.Omega.{arith}
 use mathlib.Core.Path.{sym, ◌∙◌}
-use lib.ListN.{length}
 use Rattle.bodies.specs.declared.statements.StatementRecord.TheVariants.{Do, MoveTo, If}
 use Rattle.model.specs.Words.{listed}
 use Rattle.grammar.specs.Words.{spelled}

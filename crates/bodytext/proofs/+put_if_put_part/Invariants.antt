@@ -1,16 +1,8 @@
 -- `put_part` writes one statement after the other, and `put_if` an if with its parts: a law for each way out.
 -- With each call the bytes get fewer, but for the call of `put_if`, whose measure is one less on the same bytes.
 -- Assumes nothing.
-use borrow.Author.Rules.{rules}
-use Prim.Native.Nat.{ℕ, ◌+◌, ◌*◌, ◌<◌}
-use native.Mathlib.Omega.{arith}
-use mathlib.Core.Path.{sym, ◌∙◌}
+use Prim.Native.Nat.{◌+◌, ◌*◌}
 use lib.ListN.{length}
-use Rattle.bodies.specs.declared.statements.StatementRecord.TheVariants.{Do, MoveTo, If}
-use Rattle.model.specs.Words.{listed}
-use Rattle.grammar.specs.Words.{spelled}
-use Rattle.bodies.proofs.ReaderLaws.{told, behind_falls, parts_fall}
-use Rattle.bodytext.proofs.PartLaws.{part_none, do_on, move_on, if_on, if_alone, if_both}
 use Rattle.bodytext.proofs.+put_if_put_part.Given as goal
 
 abbrev pub decreases-put_if : goal.decreases-put_if

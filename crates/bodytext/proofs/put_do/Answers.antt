@@ -5,7 +5,6 @@ use Rattle.model.specs.Words.{listed}
 use Rattle.pen.proofs.Puts.{puts_on}
 use Rattle.bodytext.specs.BodyText.{do_line}
 use Rattle.bodytext.proofs.PartLaws.{puts_line}
-use borrow.Author.Rules.{rules}
 use Rattle.bodytext.proofs.put_do.Goals as goal
 
 pub returns : goal.returns

@@ -5,7 +5,6 @@ use Rattle.grammar.specs.Words.{spelled}
 use Rattle.pen.proofs.Puts.{puts_on}
 use Rattle.bodytext.specs.BodyText.{if_line}
 use Rattle.bodytext.proofs.PartLaws.{puts_line}
-use borrow.Author.Rules.{rules}
 use Rattle.bodytext.proofs.put_head.Goals as goal
 
 pub returns : goal.returns

@@ -1,7 +1,6 @@
 -- A line: its indent, its words, its end.
 -- Assumes nothing.
 use Rattle.bodytext.proofs.PartLaws.{puts_line}
-use borrow.Author.Rules.{rules}
 use Rattle.bodytext.proofs.put_line.Goals as goal
 
 pub returns : goal.returns
