@@ -24,7 +24,7 @@ TOLD = {"All-not_in": "all_not_in", "Atom-in": "atom_in", "Conj-in": "conj_in", 
 
 
 def spelled(name):
-    return TOLD.get(name) or (name if re.match(r"All-", name) else name.replace("-", "_"))
+    return TOLD.get(name) or (name if re.match(r"All-", name) else name.replace("-", "_").replace("getD_", "get_or_"))
 
 
 def quiet(text, path, declared, theirs):

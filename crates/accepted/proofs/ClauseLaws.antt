@@ -12,7 +12,7 @@ use Rattle.model.specs.Words.{maybe, is_some}
 use Rattle.model.specs.Tree.{When, Part, end, no_action}
 use Rattle.model.specs.Node.{own_states, state_of, action_of}
 use Rattle.model.proofs.Words.{each_elim, clash}
-use Rattle.model.proofs.Lists.{getD_listed}
+use Rattle.model.proofs.Lists.{get_or_listed}
 use Rattle.records.specs.Bytes.{in_fours, in_eights}
 use Rattle.records.specs.GuardRecords.{Read, got, broken, is_read, guard_from}
 use Rattle.bodies.specs.Clauses.{when_count, first_when, action_count, first_action, guard_place, first_statement, statement_bytes, body_of}
@@ -89,7 +89,7 @@ module _ (b : List ℕ) (p : Places) (stands : Stands b p) where
   pub when_of : (q j : ℕ) (d : When) → q < in_fours (body b 1) → j < when_count (body b 1) q → get_or (state_of (class_of b) q).whens j d ≡ when_in (bodies b) (first_when (body b 1) q + j)
   unfolding class_of bodies state_in
   when_of q j d l m =
-      rw (state_of_in (bodies b) q l) (getD_listed (first_when (body b 1) q) (when_count (body b 1) q) (when_in (bodies b)) d j (first_when (body b 1) q + j) m refl)
+      rw (state_of_in (bodies b) q l) (get_or_listed (first_when (body b 1) q) (when_count (body b 1) q) (when_in (bodies b)) d j (first_when (body b 1) q + j) m refl)
 
   pub when_number : (q : ℕ) → q < in_fours (body b 1) → length (state_of (class_of b) q).whens ≡ when_count (body b 1) q
   unfolding class_of bodies

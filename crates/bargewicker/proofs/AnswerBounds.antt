@@ -14,7 +14,7 @@ use Rattle.model.specs.Moves.{after}
 use Rattle.model.specs.Commands.{ignored, handled_by, command, clause_for, left_by}
 use Rattle.model.specs.Sound.{ReferrerRight}
 use Rattle.model.proofs.Moves.{after_within}
-use Rattle.model.proofs.NodeLaws.{getD_mem, probe_found, turn_runs, next_within}
+use Rattle.model.proofs.NodeLaws.{get_or_mem, probe_found, turn_runs, next_within}
 use Rattle.model.proofs.RunLaws.{part_size, clause_listed}
 use Rattle.model.proofs.CommandLaws.{left_within}
 use Rattle.model.specs.Words.{Bytes}
@@ -67,7 +67,7 @@ module _ (b : List ℕ) (h : Bytes b) (a : Accepted b) (ks : List Child) where
   unfolding class_of bodies when_in
   found_small q i r e =
       let H = probe_found c ks past q i r e in
-      let (j, l, k, f) = mem_whens (bodies b) q (get_or (state_of c q).whens i past) (getD_mem (state_of c q).whens i past H.listed) in
+      let (j, l, k, f) = mem_whens (bodies b) q (get_or (state_of c q).whens i past) (get_or_mem (state_of c q).whens i past H.listed) in
       let n = whens_in (bodies b) q l in
       let u = u16_below (bodies b).states (body_bytes b h 1) (q * 4 + 0) in
       let v = H.listed in
@@ -77,7 +77,7 @@ module _ (b : List ℕ) (h : Bytes b) (a : Accepted b) (ks : List Child) where
   command_small : (q n : ℕ) → n < length (state_of c q).actions → (action_of c q n).command < 256
   unfolding class_of bodies action_in
   command_small q n l =
-      let (j, k, m, f) = mem_actions (bodies b) q (get_or (state_of c q).actions n no_action) (getD_mem (state_of c q).actions n no_action l) in
+      let (j, k, m, f) = mem_actions (bodies b) q (get_or (state_of c q).actions n no_action) (get_or_mem (state_of c q).actions n no_action l) in
       subst (λ (x : Action). x.command < 256) (sym f) (body_bytes b h 4 _)
 
   -- so is that of a DO
@@ -87,7 +87,7 @@ module _ (b : List ℕ) (h : Bytes b) (a : Accepted b) (ks : List Child) where
       let (i, n, f, g, z) = turn_runs c ks q m (probe c ks q) sent e in
       let H = probe_found c ks past q i (run n) f in
       let w = get_or (state_of c q).whens i past in
-      let l : n < length (state_of c q).actions = subst (ReferrerRight c q) H.referrer ((sound b h a).referrers q w (getD_mem (state_of c q).whens i past H.listed)) in
+      let l : n < length (state_of c q).actions = subst (ReferrerRight c q) H.referrer ((sound b h a).referrers q w (get_or_mem (state_of c q).whens i past H.listed)) in
       rw (← g) (command_small q n l)
 
   module _ (q : ℕ) (low : q < own_states c) where

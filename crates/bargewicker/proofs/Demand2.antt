@@ -25,7 +25,7 @@ use Rattle.model.specs.declared.ProbeAnswer.TheVariants as P
 use Rattle.model.specs.declared.PhaseAnswer.{PhaseAnswer}
 use Rattle.model.specs.declared.PhaseAnswer.TheVariants as W
 use Rattle.model.proofs.Words.{clash, true_not_false, lt_or_le}
-use Rattle.model.proofs.NodeLaws.{getD_mem, probe_found, probe_nothing, led, next_by, stops_none, stops_stay, turn_runs, sent_by, sends_is, PhaseSettled, phase_settled, phase_loops, loops_never}
+use Rattle.model.proofs.NodeLaws.{get_or_mem, probe_found, probe_nothing, led, next_by, stops_none, stops_stay, turn_runs, sent_by, sends_is, PhaseSettled, phase_settled, phase_loops, loops_never}
 use Rattle.model.proofs.RefusalLaws.{not_zero}
 use Rattle.model.proofs.AnswerLaws.{probed_told}
 use Rattle.sheet.specs.Reading.{class_of}
@@ -123,7 +123,7 @@ module _ (c : Class) (ks : List Child) where
       go (by_do m) p f g =
           let (i, a, z, named, stays) = turn_runs c ks s m p sent g in
           let F = first_found s i (run a) (f ∙ z) in
-          let w = sd.referrers s (clause c s i) (getD_mem (state_of c s).whens i no_clause F.listed) in
+          let w = sd.referrers s (clause c s i) (get_or_mem (state_of c s).whens i no_clause F.listed) in
           (i, a, F, subst (ReferrerRight c s) F.referrer w, named, stays)
 
   -- what the probe gives is right

@@ -15,7 +15,7 @@ use Rattle.model.specs.Moves.{can, is_at}
 use Rattle.model.specs.Node.{own_states, state_of}
 use Rattle.model.specs.Sound.{ReferrerRight, Sound}
 use Rattle.model.proofs.Words.{true_not_false, and_left, and_right}
-use Rattle.model.proofs.NodeLaws.{getD_mem, next_within}
+use Rattle.model.proofs.NodeLaws.{get_or_mem, next_within}
 use Rattle.records.specs.Bytes.{in_fours}
 use Rattle.bodies.specs.Clauses.{when_count, first_when, first_action, guard_place}
 use Rattle.sheet.specs.Contents.{body, bodies}
@@ -122,7 +122,7 @@ module _ (b : List ℕ) (p : Places) (present n : ℕ) (kinds sizes masks lows p
         fits : Fits (body_at b p T.stands) (class_of b) q (first_action (body b 1) q) (first_action (body b 1) (q + 1)) (when_in (bodies b) a).referrer
         fits =
             referrer_fits b p T.stands q low (when_in (bodies b) a).referrer
-            (subst (λ (w : When). ReferrerRight (class_of b) q w.referrer) when_is (is_sound.referrers q (get_or (state_of (class_of b) q).whens j no_when) (getD_mem (state_of (class_of b) q).whens j no_when l)))
+            (subst (λ (w : When). ReferrerRight (class_of b) q w.referrer) when_is (is_sound.referrers q (get_or (state_of (class_of b) q).whens j no_when) (get_or_mem (state_of (class_of b) q).whens j no_when l)))
 
         -- in lane i
         told : (i : ℕ) → i < 64 → Told places aims words i (list_in i) (body_at b p T.stands) (class_of b) q (first_action (body b 1) q) (first_action (body b 1) (q + 1)) a (get_or (state_of (class_of b) q).whens j no_when)

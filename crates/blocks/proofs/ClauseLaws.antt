@@ -12,7 +12,7 @@ use lib.Seq.{get_or-set_same, get_or-set_other}
 use Rattle.model.specs.Tree.{Referrer, move_to, run, stay, Action}
 use Rattle.model.specs.Sound.{ReferrerRight}
 use Rattle.model.proofs.Words.{below_next, lt_or_le}
-use Rattle.model.proofs.Lists.{getD_zeros}
+use Rattle.model.proofs.Lists.{get_or_zeros}
 use Rattle.records.specs.Bytes.{in_fours, in_eights}
 use Rattle.bodies.specs.Clauses.{count_sum, when_count, first_when, action_count, first_action, guard_place, statement_count, first_statement}
 use Rattle.bodies.specs.BodyRules.{actions_right}
@@ -38,7 +38,7 @@ pub record FirstsTo (states : List ℕ) (offset : ℕ) (firsts : List ℕ) (n : 
 
 module _ (states : List ℕ) (offset : ℕ) where
   pub firsts_start : FirstsTo states offset (replicate 33 0) 0
-  firsts_start = record { few = omega arith; long = refl; first = λ q l. absurd (omega arith); no_first = λ q l. getD_zeros 33 q }
+  firsts_start = record { few = omega arith; long = refl; first = λ q l. absurd (omega arith); no_first = λ q l. get_or_zeros 33 q }
 
   pub firsts_more : (firsts : List ℕ) (n v s : ℕ) → FirstsTo states offset firsts n → s ≡ in_fours states → n ≤ s → s ≤ 32 → v ≡ count_sum states offset n → FirstsTo states offset (set firsts n v) (n + 1)
   firsts_more firsts n v s F e l m h =
@@ -72,8 +72,8 @@ module _ (actions : List ℕ) where
         small = omega arith;
         here = omega arith;
         long = refl;
-        starts = λ a l. let e : a ≡ 0 = omega arith in rw e (getD_zeros 257 0 ∙ omega arith);
-        no_start = λ a l. getD_zeros 257 a;
+        starts = λ a l. let e : a ≡ 0 = omega arith in rw e (get_or_zeros 257 0 ∙ omega arith);
+        no_start = λ a l. get_or_zeros 257 a;
       }
 
   pub froms_more : (froms : List ℕ) (n from count : ℕ) → FromsTo actions froms n from → n < 256 → count ≡ statement_count actions n → count < 65536
@@ -161,8 +161,8 @@ module _ (states whens : List ℕ) where
         aims_long = refl;
         place = λ w l. absurd (omega arith);
         aimed = λ q w l. absurd (omega arith);
-        no_place = λ w l. getD_zeros 256 w;
-        no_aim = λ w l. getD_zeros 256 w;
+        no_place = λ w l. get_or_zeros 256 w;
+        no_aim = λ w l. get_or_zeros 256 w;
       }
 
   pub whens_more : (n first last action : ℕ) (places aims places₁ aims₁ : List ℕ) → WhensOf states whens n places aims → first ≡ first_when states n → last ≡ first_when states (n + 1) → action ≡ first_action states n

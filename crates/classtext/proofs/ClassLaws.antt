@@ -8,7 +8,7 @@ use lib.ListN.{get_or}
 use Rattle.model.specs.Words.{listed}
 use Rattle.model.specs.Sound.{ReferrerRight}
 use Rattle.model.specs.Tree.{Referrer, move_to, run, stay, Action, State, Class, no_action}
-use Rattle.model.proofs.Lists.{getD_listed}
+use Rattle.model.proofs.Lists.{get_or_listed}
 use Rattle.grammar.specs.Words.{spelled}
 use Rattle.records.specs.Bytes.{in_fours}
 use Rattle.records.specs.GuardRecords.{got, guard_from}
@@ -61,7 +61,7 @@ no_state_left own l read q n h = let e : n - q ≡ 0 = omega arith in rw e
 -- the command of a state's action clause a
 pub command_at : (b : List ℕ) (q a : ℕ) → a < action_count (body b 1) q → (get_or (state_in (bodies b) q).actions a no_action).command ≡ action_command (body b 4) (first_action (body b 1) q + a)
 unfolding bodies state_in action_in
-command_at b q a l = ap (λ (x : Action). x.command) (getD_listed (first_action (body b 1) q) (action_count (body b 1) q) (action_in (bodies b)) no_action a (first_action (body b 1) q + a) l refl)
+command_at b q a l = ap (λ (x : Action). x.command) (get_or_listed (first_action (body b 1) q) (action_count (body b 1) q) (action_in (bodies b)) no_action a (first_action (body b 1) q + a) l refl)
 
 -- a when clause of an accepted sheet
 module _ (b : List ℕ) (p : Places) (stands : Stands b p) (q w : ℕ) (W : WhenOf b q w) where

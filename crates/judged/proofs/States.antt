@@ -11,7 +11,7 @@ use borrow.Author.Tests.{eqb-false, not-true, ltb-true, leb-true}
 use Rattle.model.specs.Words.{Bytes, choose, listed}
 use Rattle.model.specs.Tree.{end, Action, no_action}
 use Rattle.model.proofs.Words.{true_not_false, and_left, and_right, each_elim, maybe_case}
-use Rattle.model.proofs.Lists.{length_listed, getD_listed}
+use Rattle.model.proofs.Lists.{length_listed, get_or_listed}
 use Rattle.records.specs.Bytes.{in_fours, in_eights}
 use Rattle.records.specs.GuardRecords.{guard_from, is_read}
 use Rattle.records.proofs.GuardLaws.{read_case}
@@ -118,7 +118,7 @@ module _ (s : Bodies) (r : BodiesRight s) (bytes : Bytes s.guards) where
       let z : i < count = omega (arith, length_listed first count (action_in s)) in
       let y : j < count = omega arith in
       let at : (k : ℕ) → k < count → (get_or (listed first count (action_in s)) k no_action).command ≡ action_command s.actions (first + k) =
-      λ k u. ap (λ (a : Action). a.command) (getD_listed first count (action_in s) no_action k (first + k) u refl) in
+      λ k u. ap (λ (a : Action). a.command) (get_or_listed first count (action_in s) no_action k (first + k) u refl) in
       commands_differ q i j l z n (sym (at j y) ∙ e ∙ at i z)
 
   -- so of each state

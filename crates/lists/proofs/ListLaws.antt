@@ -8,7 +8,7 @@ use mathlib.Core.List.{List}
 use lib.ListN.{length, get_or}
 use borrow.Author.Tests.{eq-eqb, ne_eqb}
 use Rattle.model.specs.Words.{every}
-use Rattle.model.proofs.Lists.{length_listed, getD_listed}
+use Rattle.model.proofs.Lists.{length_listed, get_or_listed}
 use Rattle.records.specs.Bytes.{u32}
 use Rattle.naming.specs.NameLists.{Lists, class_sets, records_in, record_right, none_twice, list_right, bits_named, lists_right, padded, number_in, listed_in}
 use Rattle.lists.specs.Lent.{lent, name_record, found_from, sets_in, Count}
@@ -42,7 +42,7 @@ pub set_read : (b : List ℕ) (n i : ℕ) → Count b 36 n → i < n → (x : �
 unfolding sets_in
 set_read b n i k l x e m t f =
     let h : i < length b / 36 = (let z = k.is in omega arith) in
-    ap (bits_named m) (sym (e ∙ getD_listed 0 (length b / 36) (set_in b) 0 i i h (omega arith))) ∙ sym f
+    ap (bits_named m) (sym (e ∙ get_or_listed 0 (length b / 36) (set_in b) 0 i i h (omega arith))) ∙ sym f
 
 -- the sets that the lists have are those of its classes
 pub sets_of : (l : Lists) → class_sets l ≡ sets_in l.classes

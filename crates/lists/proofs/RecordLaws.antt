@@ -13,7 +13,7 @@ use lib.Seq.{take-suc, drop-cons, append_snoc, get_or-take, get_or-drop}
 use borrow.Author.Tests.{eq-eqb, ne_eqb, lt-ltb, le-ltb, leb-true, leb-false}
 use Rattle.model.specs.Words.{every, listed, each, has}
 use Rattle.model.proofs.Words.{clash, and_left, and_right, not_not_true, each_broken, each_all}
-use Rattle.model.proofs.Lists.{getD_listed, get_d_past}
+use Rattle.model.proofs.Lists.{get_or_listed, get_d_past}
 use Rattle.records.specs.Bytes.{u32}
 use Rattle.grammar.specs.Words.{same, is_name}
 use Rattle.grammar.proofs.Words.{same_length}
@@ -134,7 +134,7 @@ set_past b i l = sym (get_d_past 0 (length b / 36) (λ i. u32 b (i * 36 + 32)) 0
 
 pub set_there : (b : List ℕ) (i n : ℕ) → i < length b / 36 → 36 ≤ n → u32 (take n (drop (i * 36) b)) 32 ≡ get_or (sets_in b) i 0
 unfolding sets_in
-set_there b i n l m = at ∙ sym (getD_listed 0 (length b / 36) (λ i. u32 b (i * 36 + 32)) 0 i i l (omega arith))
+set_there b i n l m = at ∙ sym (get_or_listed 0 (length b / 36) (λ i. u32 b (i * 36 + 32)) 0 i i l (omega arith))
   where
     one : (k a : ℕ) → k < 36 → a ≡ i * 36 + k → get_or (take n (drop (i * 36) b)) k 0 ≡ get_or b a 0
     one k a h e = rw e (get_or-take n (drop (i * 36) b) k 0 (omega arith) ∙ get_or-drop (i * 36) b k 0)

@@ -16,7 +16,7 @@ use Rattle.model.specs.Words.{has, kept, keep, listed}
 use Rattle.model.specs.Tree.{Child}
 use Rattle.model.specs.Unique.{LeavesOne}
 use Rattle.model.proofs.Words.{lt_or_le}
-use Rattle.model.proofs.Lists.{length_listed, getD_listed, get_d_past, mem_listed, keep_mem, listed_more, keep_append, listed_same}
+use Rattle.model.proofs.Lists.{length_listed, get_or_listed, get_d_past, mem_listed, keep_mem, listed_more, keep_append, listed_same}
 use Rattle.model.proofs.Unique.{equations}
 use Rattle.bodies.specs.Clauses.{name_set}
 use Rattle.records.specs.Bytes.{in_fours}
@@ -46,7 +46,7 @@ pair_small k m = let (j, low, high, e) = mem_listed 0 256 cell k m in rw e (reco
 -- a store at one place of a list that is given by its entries
 module _ (n : ℕ) (f g : ℕ → ℕ) (k v : ℕ) (there : g k ≡ v) (others : (j : ℕ) → (j ≡ k → ⊥) → g j ≡ f j) where
   entry_other : (j : ℕ) → j < n → (j ≡ k → ⊥) → get_or (set (listed 0 n f) k v) j 0 ≡ g j
-  entry_other j l h = get_or-set_other (listed 0 n f) k j v 0 h ∙ getD_listed 0 n f 0 j j l (omega arith) ∙ sym (others j h)
+  entry_other j l h = get_or-set_other (listed 0 n f) k j v 0 h ∙ get_or_listed 0 n f 0 j j l (omega arith) ∙ sym (others j h)
 
   entry_set : (j : ℕ) → j < n → (j < k) ⊎ (k ≤ j) → (k < j) ⊎ (j ≤ k) → get_or (set (listed 0 n f) k v) j 0 ≡ g j
   entry_set j l (inl u) w = entry_other j l (λ e. omega arith)
@@ -59,7 +59,7 @@ module _ (n : ℕ) (f g : ℕ → ℕ) (k v : ℕ) (there : g k ≡ v) (others :
   listed_set =
       let long : length (set (listed 0 n f) k v) ≡ n = length-set (listed 0 n f) k v ∙ length_listed 0 n f in
       ext_get_or 0 (set (listed 0 n f) k v) (listed 0 n g) (long ∙ sym (length_listed 0 n g))
-      (λ j l. entry_set j (omega arith) (lt_or_le j k) (lt_or_le k j) ∙ sym (getD_listed 0 n g 0 j j (omega arith) (omega arith)))
+      (λ j l. entry_set j (omega arith) (lt_or_le j k) (lt_or_le k j) ∙ sym (get_or_listed 0 n g 0 j j (omega arith) (omega arith)))
 
 -- a list with one cell more: it is behind the others, which are where they were
 at_other : (ks : List Child) (k : Child) (j : ℕ) → (j ≡ length ks → ⊥) → cell_at (ks ++ (k ∷ [])) j ≡ cell_at ks j
@@ -166,13 +166,13 @@ module _ (ks : List Child) where
   listed_all : listed 0 (length ks) (cell_at ks) ≡ ks
   listed_all =
       ext_get_or (record { class = 0; name = 0 }) (listed 0 (length ks) (cell_at ks)) ks (length_listed 0 (length ks) (cell_at ks))
-      (λ j l. getD_listed 0 (length ks) (cell_at ks) (record { class = 0; name = 0 }) j j (let z = length_listed 0 (length ks) (cell_at ks) in omega arith) (omega arith))
+      (λ j l. get_or_listed 0 (length ks) (cell_at ks) (record { class = 0; name = 0 }) j j (let z = length_listed 0 (length ks) (cell_at ks) in omega arith) (omega arith))
 
   pub twenty_all : length ks ≤ 20 → cells_of (first_twenty ks) ≡ ks
   unfolding first_twenty cells_from
   twenty_all l =
       listed_same 0 (length ks) (λ i. record { class = get_or (listed 0 20 (λ i. (cell_at ks i).class)) i 0; name = get_or (listed 0 20 (λ i. (cell_at ks i).name)) i 0 }) (cell_at ks)
-      (λ j u d. record { class = getD_listed 0 20 (λ i. (cell_at ks i).class) 0 j j (omega arith) (omega arith) d; name = getD_listed 0 20 (λ i. (cell_at ks i).name) 0 j j (omega arith) (omega arith) d })
+      (λ j u d. record { class = get_or_listed 0 20 (λ i. (cell_at ks i).class) 0 j j (omega arith) (omega arith) d; name = get_or_listed 0 20 (λ i. (cell_at ks i).name) 0 j j (omega arith) (omega arith) d })
       ∙ listed_all
 
 -- the numbers read of small cells are small
@@ -185,7 +185,7 @@ entry_small : (n : ℕ) (f : ℕ → ℕ) (b : ℕ) → 0 < b → ((i : ℕ) →
 entry_small n f b p h i = go (lt_or_le i n)
   where
     go : (i < n) ⊎ (n ≤ i) → get_or (listed 0 n f) i 0 < b
-    go (inl l) = rw (getD_listed 0 n f 0 i i l (omega arith)) (h i)
+    go (inl l) = rw (get_or_listed 0 n f 0 i i l (omega arith)) (h i)
     go (inr l) = rw (get_d_past 0 n f 0 i l) p
 
 pub twenty_small : (ks : List Child) → ((k : Child) → Memᴰ k ks → Small k) → AllSmall (first_twenty ks)

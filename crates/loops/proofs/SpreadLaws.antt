@@ -15,7 +15,7 @@ use borrow.Author.Tests.{ne_eqb}
 use Rattle.model.specs.Words.{has, kept, some_in}
 use Rattle.model.specs.Tree.{Child}
 use Rattle.model.specs.Crews.{occupied}
-use Rattle.model.proofs.Lists.{length_listed, getD_listed, mem_listed}
+use Rattle.model.proofs.Lists.{length_listed, get_or_listed, mem_listed}
 use Rattle.model.proofs.Bits.{has_none}
 use Rattle.children.specs.NameSets.{Shows, Crewed}
 use Rattle.model.proofs.Masks.{shifted}
@@ -59,7 +59,7 @@ module _ (cs ns : List ℕ) (n k : ℕ) where
 
   at_from : (i : ℕ) (d : Child) → i < n → get_or (cells_from cs ns n) i d ≡ record { class = get_or cs i 0; name = get_or ns i 0 }
   unfolding cells_from
-  at_from i d l = getD_listed 0 n (λ i. record { class = get_or cs i 0; name = get_or ns i 0 }) d i i l (omega arith)
+  at_from i d l = get_or_listed 0 n (λ i. record { class = get_or cs i 0; name = get_or ns i 0 }) d i i l (omega arith)
 
   pub spreading_start : Spreading cs ns n k (replicate 8 0) n
   unfolding occupied some_in chosen

@@ -12,7 +12,7 @@ use Rattle.model.specs.Tree.{Child, When, State}
 use Rattle.model.specs.Node.{own_states, first_true, probe, turn_for, turn, moved, next}
 use Rattle.model.specs.declared.OwnState.{OwnState}
 use Rattle.model.proofs.Words.{lt_or_le}
-use Rattle.model.proofs.Lists.{getD_alike}
+use Rattle.model.proofs.Lists.{get_or_alike}
 use Rattle.model.proofs.NodeLaws.{stops_next, moves_next, next_within}
 use Rattle.model.specs.Words.{Bytes}
 use Rattle.sheet.specs.Contents.{body, bodies}
@@ -68,7 +68,7 @@ kept_there to i r j h = ap leads (get_or-set_other to i j r 255 h)
 module _ (b list : List ℕ) where
   pub tabulating_start : Tabulating b list (replicate 32 255) 0
   unfolding table_next
-  tabulating_start = record { table = refl; filled = λ j l. absurd (omega arith); rest = λ j l. ap leads (getD_alike 32 j 255) }
+  tabulating_start = record { table = refl; filled = λ j l. absurd (omega arith); rest = λ j l. ap leads (get_or_alike 32 j 255) }
 
   pub tabulating_more : (to : List ℕ) (q r : ℕ) → Tabulating b list to q → q < 32 → MovesTo b list q r → Tabulating b list (set to q r) (q + 1)
   tabulating_more to q r t l m =

@@ -9,7 +9,7 @@ use lib.Dec.{eqb}
 use lib.ListN.{length, get_or, drop}
 use borrow.Author.Tests.{eq-eqb, ne_eqb, lt-ltb, le-ltb}
 use Rattle.model.specs.Words.{listed}
-use Rattle.model.proofs.Lists.{length_listed, getD_listed}
+use Rattle.model.proofs.Lists.{length_listed, get_or_listed}
 use Rattle.records.specs.Bytes.{u32, in_fours}
 use Rattle.bodies.specs.Clauses.{name_set, action_command}
 use Rattle.grammar.specs.Words.{same}
@@ -61,7 +61,7 @@ module _ (classes sets : List ℕ) (n : ℕ) where
     module _ (l : i < n) (x y : ℕ) (e : x ≡ get_or (sets_in classes) i 0) (f : y ≡ name_set sets i) where
       -- set i, as it was read of both
       there : y ≡ get_or (sets_of sets) i 0
-      there = let z = a.many in f ∙ sym (getD_listed 0 (in_fours sets) (name_set sets) 0 i i (omega arith) (omega arith))
+      there = let z = a.many in f ∙ sym (get_or_listed 0 (in_fours sets) (name_set sets) 0 i i (omega arith) (omega arith))
 
       -- it is the same, or it is not
       pub sets_on : x ≡ y → Alike classes sets n (i + 1)

@@ -17,11 +17,11 @@ length_listed i zero f = refl
 length_listed i (suc n) f = ap suc (length_listed (suc i) n f)
 
 -- entry j of f i, f (i + 1), ..
-pub getD_listed {ℓ} : {A : Type ℓ} (i n : ℕ) (f : ℕ → A) (d : A) (j a : ℕ) → j < n → a ≡ i + j → get_or (listed i n f) j d ≡ f a
+pub get_or_listed {ℓ} : {A : Type ℓ} (i n : ℕ) (f : ℕ → A) (d : A) (j a : ℕ) → j < n → a ≡ i + j → get_or (listed i n f) j d ≡ f a
 unfolding listed
-getD_listed i zero f d j a l e = absurd (omega arith)
-getD_listed i (suc n) f d zero a l e = ap f (let h : i ≡ a = omega arith in h)
-getD_listed i (suc n) f d (suc j) a l e = getD_listed (suc i) n f d j a (omega arith) (omega arith)
+get_or_listed i zero f d j a l e = absurd (omega arith)
+get_or_listed i (suc n) f d zero a l e = ap f (let h : i ≡ a = omega arith in h)
+get_or_listed i (suc n) f d (suc j) a l e = get_or_listed (suc i) n f d j a (omega arith) (omega arith)
 
 pub get_d_past {ℓ} : {A : Type ℓ} (i n : ℕ) (f : ℕ → A) (d : A) (j : ℕ) → n ≤ j → get_or (listed i n f) j d ≡ d
 unfolding listed
@@ -126,10 +126,10 @@ listed_same i zero f g h = refl
 listed_same i (suc n) f g h = rw (h i (omega arith), listed_same (suc i) n f g (λ j l. h j (omega arith)))
 
 -- a table of one number, which stands past its end too
-pub getD_alike : (n j x : ℕ) → get_or (replicate n x) j x ≡ x
-getD_alike zero j x = refl
-getD_alike (suc n) zero x = refl
-getD_alike (suc n) (suc j) x = getD_alike n j x
+pub get_or_alike : (n j x : ℕ) → get_or (replicate n x) j x ≡ x
+get_or_alike zero j x = refl
+get_or_alike (suc n) zero x = refl
+get_or_alike (suc n) (suc j) x = get_or_alike n j x
 
-pub getD_zeros : (n j : ℕ) → get_or {A = ℕ} (replicate n 0) j 0 ≡ 0
-getD_zeros n j = getD_alike n j 0
+pub get_or_zeros : (n j : ℕ) → get_or {A = ℕ} (replicate n 0) j 0 ≡ 0
+get_or_zeros n j = get_or_alike n j 0

@@ -19,10 +19,10 @@ use Rattle.model.proofs.RunLaws.{part_moves}
 use Rattle.model.proofs.Moves.{after_some, after_zero, ends_here, ends_later, ends_once, decided}
 
 -- entry n of a list, where n is below its length, is in the list
-pub getD_mem {ℓ} : {A : Type ℓ} (xs : List A) (n : ℕ) (d : A) → n < length xs → Memᴰ (get_or xs n d) xs
-getD_mem [] n d l = absurd (omega arith)
-getD_mem (x ∷ xs) zero d l = Memᴰ.head refl
-getD_mem (x ∷ xs) (suc n) d l = Memᴰ.tail (getD_mem xs n d (omega arith))
+pub get_or_mem {ℓ} : {A : Type ℓ} (xs : List A) (n : ℕ) (d : A) → n < length xs → Memᴰ (get_or xs n d) xs
+get_or_mem [] n d l = absurd (omega arith)
+get_or_mem (x ∷ xs) zero d l = Memᴰ.head refl
+get_or_mem (x ∷ xs) (suc n) d l = Memᴰ.tail (get_or_mem xs n d (omega arith))
 
 -- clause n of the list has the referrer r, its guard is true, and no guard before it is
 pub record Hit (ks : List Child) (ws : List When) (d : When) (n : ℕ) (r : Referrer) : Type 0 where
@@ -158,13 +158,13 @@ module _ (c : Class) (ks : List Child) where
       let z : u ≡ t = cc in
       let d : When = record { guard = atom any_in everyone 0; referrer = stay } in
       let H = probe_found d q i (move_to u) h in
-      let l : u < own_states c = subst (ReferrerRight c q) H.referrer (s.referrers q (get_or (state_of c q).whens i d) (getD_mem (state_of c q).whens i d H.listed)) in
+      let l : u < own_states c = subst (ReferrerRight c q) H.referrer (s.referrers q (get_or (state_of c q).whens i d) (get_or_mem (state_of c q).whens i d H.listed)) in
       rw (← z) l
   led_within s q t (found i (run a)) h e =
       let d : When = record { guard = atom any_in everyone 0; referrer = stay } in
       let H = probe_found d q i (run a) h in
-      let l : a < length (state_of c q).actions = subst (ReferrerRight c q) H.referrer (s.referrers q (get_or (state_of c q).whens i d) (getD_mem (state_of c q).whens i d H.listed)) in
-      part_moves (action_of c q a).body ks (own_states c) (s.bodies q (action_of c q a) (getD_mem (state_of c q).actions a no_action l)) t e
+      let l : a < length (state_of c q).actions = subst (ReferrerRight c q) H.referrer (s.referrers q (get_or (state_of c q).whens i d) (get_or_mem (state_of c q).whens i d H.listed)) in
+      part_moves (action_of c q a).body ks (own_states c) (s.bodies q (action_of c q a) (get_or_mem (state_of c q).actions a no_action l)) t e
 
   pub next_within : Sound c → Within (next c ks) (own_states c)
   next_within s q t e = led_within s q t (probe c ks q) refl (sym (next_by q) ∙ e)

@@ -17,7 +17,7 @@ use Rattle.model.specs.declared.Probed.TheVariants.{Nothing, Found}
 use Rattle.model.specs.declared.Probed as Code
 use Rattle.model.specs.declared.Referrer.{Referrer}
 use Rattle.model.specs.declared.Referrer.TheVariants.{MoveTo, Do, Stay}
-use Rattle.model.proofs.NodeLaws.{getD_mem, probe_found, sent_by, sends_is}
+use Rattle.model.proofs.NodeLaws.{get_or_mem, probe_found, sent_by, sends_is}
 use Rattle.bodies.specs.Clauses.{action_count, first_action, action_command}
 use Rattle.sheet.specs.Contents.{body, bodies}
 use Rattle.sheet.specs.Reading.{action_in, class_in, class_of}
@@ -77,7 +77,7 @@ module _ (b : List ℕ) (right : Right b) (q : ℕ) where
       let s = bodies b in
       let d : When = record { guard = atom any_in everyone 0; referrer = stay } in
       let H = probe_found (class_in s) ks d q i (run a) e in
-      let m = getD_mem (state_of (class_in s) q).whens i d H.listed in
+      let m = get_or_mem (state_of (class_in s) q).whens i d H.listed in
       let (j, l, u, z) = mem_whens s q (get_or (state_of (class_in s) q).whens i d) m in
       let there : a < length (state_of (class_in s) q).actions = subst (ReferrerRight (class_in s) q) H.referrer (referrers_in s right.bodies q (get_or (state_of (class_in s) q).whens i d) m) in
       rw (actions_in s q l) at there

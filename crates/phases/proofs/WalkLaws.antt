@@ -18,7 +18,7 @@ use Rattle.model.specs.declared.OwnState.{OwnState}
 use Rattle.model.specs.declared.Ending.{Ending}
 use Rattle.model.specs.declared.Phase.TheVariants.{Settled, Loops as Looping}
 use Rattle.model.proofs.Words.{clash}
-use Rattle.model.proofs.Lists.{getD_alike}
+use Rattle.model.proofs.Lists.{get_or_alike}
 use Rattle.model.proofs.Moves.{after_add, after_some, after_zero, never_twice}
 use Rattle.model.proofs.NodeLaws.{next_within, stops_next, moves_next, next_moves}
 use Rattle.records.specs.Bytes.{in_fours}
@@ -98,7 +98,7 @@ module _ (b list : List ℕ) (bytes : Bytes b) (accepted : Accepted b) (short : 
         long = refl;
         same = refl;
         there = after_zero next q;
-        known = λ r n. absurd (n (getD_alike 32 r 255));
+        known = λ r n. absurd (n (get_or_alike 32 r 255));
         sent = [];
         walked = rw z;
         fresh = λ e. record { buffer = refl; place = refl };

@@ -23,10 +23,10 @@ use Rattle.readback.proofs.TreeRows.{trees_are}
 use Rattle.readback.proofs.Clauses.{every_get}
 
 -- entry i of what f makes of a list
-getD_made : {A B : Type 0} (f : A → B) (d : A) (e : B) (xs : List A) (i : ℕ) → i < length xs → get_or (map f xs) i e ≡ f (get_or xs i d)
-getD_made f d e [] i l = absurd (omega arith)
-getD_made f d e (x ∷ xs) zero l = refl
-getD_made f d e (x ∷ xs) (suc i) l = getD_made f d e xs i (omega arith)
+get_or_made : {A B : Type 0} (f : A → B) (d : A) (e : B) (xs : List A) (i : ℕ) → i < length xs → get_or (map f xs) i e ≡ f (get_or xs i d)
+get_or_made f d e [] i l = absurd (omega arith)
+get_or_made f d e (x ∷ xs) zero l = refl
+get_or_made f d e (x ∷ xs) (suc i) l = get_or_made f d e xs i (omega arith)
 
 -- an entry of a list is among its names
 pub among_at : (ns : List Name) (n : Name) (i : ℕ) → position ns n ≡ i → i < length ns → among ns n ≡ true
@@ -47,7 +47,7 @@ module _ (own : List ℕ) (o : RightList 32 own) where
 
   own_at : (l : Lists) (q : ℕ) → q < length (records_in 32 own) → get_or (own_list own) q [] ≡ own_text own l q
   unfolding names_in own_text name_at
-  own_at l q b = getD_made characters [] [] (records_in 32 own) q b
+  own_at l q b = get_or_made characters [] [] (records_in 32 own) q b
 
   pub own_position : (l : Lists) (q : ℕ) → q < length (records_in 32 own) → position (own_list own) (own_text own l q) ≡ q
   own_position l q b = ap (position (own_list own)) (sym (own_at l q b)) ∙ position_at (own_list own) own_once q (omega (arith, own_number own))
@@ -78,8 +78,8 @@ module _ (own : List ℕ) (l : Lists) (cs : RightList 32 l.commands) (S : ℕ) (
   action_at : (i : ℕ) → i < length actions → get_or action_list i [] ≡ command_text own l (get_or actions i M.no_action).command
   unfolding action_tree
   action_at i b =
-      getD_made (λ a. a.command) (action_tree own l M.no_action) [] (map (action_tree own l) actions) i (omega (arith, length-map actions (action_tree own l)))
-      ∙ ap (λ (a : G.Action). a.command) (getD_made (action_tree own l) M.no_action (action_tree own l M.no_action) actions i b)
+      get_or_made (λ a. a.command) (action_tree own l M.no_action) [] (map (action_tree own l) actions) i (omega (arith, length-map actions (action_tree own l)))
+      ∙ ap (λ (a : G.Action). a.command) (get_or_made (action_tree own l) M.no_action (action_tree own l M.no_action) actions i b)
 
   number_at : (i : ℕ) → i < length actions → number_in (command_names l) (get_or action_list i []) ≡ (get_or actions i M.no_action).command
   unfolding command_text

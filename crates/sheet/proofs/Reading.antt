@@ -14,7 +14,7 @@ use Rattle.model.specs.Node.{own_states, state_of}
 use Rattle.model.specs.Crews.{child_classes}
 use Rattle.model.proofs.Words.{lt_or_le}
 use Rattle.model.proofs.RunLaws.{part_size}
-use Rattle.model.proofs.Lists.{length_listed, getD_listed, get_d_past, mem_listed}
+use Rattle.model.proofs.Lists.{length_listed, get_or_listed, get_d_past, mem_listed}
 use Rattle.sheet.specs.Contents.{Bodies}
 use Rattle.bodies.specs.Clauses.{name_set, count_at, count_sum, when_count, action_count, first_when, first_action, body_of}
 use Rattle.records.specs.Bytes.{in_fours, in_eights}
@@ -34,12 +34,12 @@ module _ (s : Bodies) where
   -- child class i has the name set that its record holds
   pub name_set_in : (i : ℕ) → i < in_fours s.classes → get_or (class_in s).children i 0 ≡ name_set s.classes i
   unfolding class_in
-  name_set_in i l = getD_listed 0 (in_fours s.classes) (name_set s.classes) 0 i i l (omega arith)
+  name_set_in i l = get_or_listed 0 (in_fours s.classes) (name_set s.classes) 0 i i l (omega arith)
 
   -- state q is read of its record; past the last there is none
   pub state_of_in : (q : ℕ) → q < in_fours s.states → state_of (class_in s) q ≡ state_in s q
   unfolding class_in
-  state_of_in q l = getD_listed 0 (in_fours s.states) (state_in s) no_state q q l (omega arith)
+  state_of_in q l = get_or_listed 0 (in_fours s.states) (state_in s) no_state q q l (omega arith)
 
   pub state_of_past : (q : ℕ) → in_fours s.states ≤ q → state_of (class_in s) q ≡ no_state
   unfolding class_in
@@ -85,7 +85,7 @@ module _ (s : Bodies) where
   -- action clause i of state q is clause i behind its first
   pub action_of_in : (q i : ℕ) (d : Action) → q < in_fours s.states → i < action_count s.states q → get_or (state_of (class_in s) q).actions i d ≡ action_in s (first_action s.states q + i)
   unfolding state_in
-  action_of_in q i d l m = rw (state_of_in q l) (getD_listed (first_action s.states q) (action_count s.states q) (action_in s) d i (first_action s.states q + i) m refl)
+  action_of_in q i d l m = rw (state_of_in q l) (get_or_listed (first_action s.states q) (action_count s.states q) (action_in s) d i (first_action s.states q + i) m refl)
 
 -- an action clause has no more statements than the sheet
 pub body_sized : (s : Bodies) (a : ℕ) → part_size (action_in s a).body ≤ in_eights s.statements

@@ -10,7 +10,7 @@ use lib.Dec.{eqb, leb}
 use lib.ListN.{length, take, drop, length-map}
 use borrow.Author.Tests.{ne_eqb, le-leb, lt-leb, eqb-true, eqb-false}
 use Rattle.model.specs.Words.{keep, listed, has}
-use Rattle.model.proofs.Lists.{getD_listed, get_d_past}
+use Rattle.model.proofs.Lists.{get_or_listed, get_d_past}
 use Rattle.model.proofs.Words.{lt_or_le}
 use Rattle.grammar.specs.Grammar.{Name}
 use Rattle.grammar.specs.Words.{spelled}
@@ -32,7 +32,7 @@ module _ (size : ℕ) (b : List ℕ) (i n : ℕ) (k : Count b size n) where
   unfolding name_at records_in
   name_there l =
       let m : i < length b / size = rw (← k.is) l in
-      ap characters (sym (getD_listed 0 (length b / size) (λ j. take 32 (drop (j * size) b)) [] i i m (omega arith)))
+      ap characters (sym (get_or_listed 0 (length b / size) (λ j. take 32 (drop (j * size) b)) [] i i m (omega arith)))
 
   pub name_past : n ≤ i → [] ≡ name_at size b i
   unfolding name_at records_in characters

@@ -10,7 +10,7 @@ use lib.ListN.{length, get_or, set, length-set, replicate}
 use lib.Seq.{get_or-set_same, get_or-set_other}
 use Rattle.model.specs.Tree.{Child}
 use Rattle.model.proofs.Words.{lt_or_le}
-use Rattle.model.proofs.Lists.{getD_zeros}
+use Rattle.model.proofs.Lists.{get_or_zeros}
 use Rattle.records.specs.GuardRecords.{guard_record}
 use Rattle.records.specs.Patterns.{pattern_as}
 use Rattle.records.specs.Records.{kind_as, record_as}
@@ -88,11 +88,11 @@ planning_start gs xs n e l =
       masks_long = refl;
       lows_long = refl;
       row = λ j a b. absurd (omega arith);
-      no_kind = λ j a. getD_zeros 1024 j;
-      no_mask = λ j a. getD_zeros 1024 j;
-      no_low = λ j a. getD_zeros 1024 j;
-      no_size = λ j a. getD_zeros 1024 j;
-      short = λ j a. let z = getD_zeros 1024 j in omega arith;
+      no_kind = λ j a. get_or_zeros 1024 j;
+      no_mask = λ j a. get_or_zeros 1024 j;
+      no_low = λ j a. get_or_zeros 1024 j;
+      no_size = λ j a. get_or_zeros 1024 j;
+      short = λ j a. let z = get_or_zeros 1024 j in omega arith;
     }
 
 module _ (gs : List ℕ) (xs : List Child) (n : ℕ) (kinds sizes masks lows : List ℕ) (i m : ℕ) (next : m ≡ i + 1) (P : Planning gs xs n kinds sizes masks lows m) where

@@ -3,7 +3,7 @@
 -- what `block` was called with
 use borrow.Author.Rules.{rules}
 use mathlib.Core.Path.{refl}
-use Rattle.model.proofs.Lists.{getD_zeros}
+use Rattle.model.proofs.Lists.{get_or_zeros}
 use Rattle.blocks.proofs.BlockLaws.{block_skipped, block_is}
 use Rattle.blocks.proofs.search.block.Goals as goal
 
@@ -11,7 +11,7 @@ pub returns-then-counted-eq0 : goal.returns-then-counted-eq0
 returns-then-counted-eq0 c = block_skipped _ _ _ _ _ _ _ _ _ _ _ _ _ _ _ c.requires.round c.counted_lanes-counted.ensures c.if-counted-eq0.true
 
 pub sort_lanes-requires : goal.sort_lanes-requires
-sort_lanes-requires c = (c.requires.ranges, (λ x. getD_zeros 1280 x), refl)
+sort_lanes-requires c = (c.requires.ranges, (λ x. get_or_zeros 1280 x), refl)
 
 pub count_moves-requires : goal.count_moves-requires
 count_moves-requires c =
