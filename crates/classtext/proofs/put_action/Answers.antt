@@ -1,12 +1,9 @@
 -- The words of an action clause, and its statements.
 -- Assumes nothing.
 use native.Mathlib.Omega.{arith}
-use mathlib.Core.Path.{◌∙◌}
 use Rattle.model.specs.Words.{listed}
 use Rattle.grammar.specs.Words.{spelled}
-use Rattle.pen.proofs.Puts.{puts_length}
 use Rattle.classtext.proofs.ClassLaws.{action_small, action_puts}
-use borrow.Author.Rules.{rules}
 use Rattle.classtext.proofs.put_action.Goals as goal
 
 pub action_command-requires : goal.action_command-requires

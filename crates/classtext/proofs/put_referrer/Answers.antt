@@ -6,7 +6,6 @@ use Rattle.grammar.specs.Words.{spelled}
 use Rattle.model.specs.Answers.{referrer_as}
 use Rattle.pen.proofs.Puts.{puts_on}
 use Rattle.classtext.specs.ClassText.{referrer_words}
-use borrow.Author.Rules.{rules}
 use Rattle.classtext.proofs.put_referrer.Goals as goal
 
 pub returns-in-MoveTo : goal.returns-in-MoveTo

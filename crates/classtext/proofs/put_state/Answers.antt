@@ -1,11 +1,8 @@
 -- The words of a state, its when clauses and its action clauses, one behind the other.
 -- Assumes nothing.
-use mathlib.Core.Path.{◌∙◌}
 use Rattle.model.specs.Words.{listed}
 use Rattle.grammar.specs.Words.{spelled}
-use Rattle.pen.proofs.Puts.{puts_length}
 use Rattle.classtext.proofs.ClassLaws.{state_puts}
-use borrow.Author.Rules.{rules}
 use Rattle.classtext.proofs.put_state.Goals as goal
 
 pub put_actions-requires : goal.put_actions-requires

@@ -1,13 +1,8 @@
 -- `put_states` meets its contract. The loop's invariant: whoever writes the states that are left has written all.
 -- Assumes nothing.
-use Prim.Native.Nat.{◌-◌}
 use native.Mathlib.Omega.{arith}
-use Rattle.model.specs.Words.{listed}
-use Rattle.sheet.specs.Contents.{bodies}
-use Rattle.sheet.specs.Reading.{class_of, state_in}
 use Rattle.lists.specs.Lent.{lent}
-use Rattle.pen.proofs.Puts.{Going, going_none, going_on, going_end}
-use Rattle.writings.specs.Layout.{states_text}
+use Rattle.pen.proofs.Puts.{going_none, going_on, going_end}
 use Rattle.classtext.proofs.ClassLaws.{states_start, state_less, no_state_left}
 use Rattle.classtext.proofs.put_states.Goals as goal
 

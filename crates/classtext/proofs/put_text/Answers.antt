@@ -4,7 +4,6 @@ use native.Mathlib.Omega.{arith}
 use Rattle.model.specs.Words.{listed}
 use Rattle.grammar.specs.Words.{spelled}
 use Rattle.classtext.proofs.ClassLaws.{text_puts}
-use borrow.Author.Rules.{rules}
 use Rattle.classtext.proofs.put_text.Goals as goal
 
 pub returns : goal.returns

@@ -1,12 +1,9 @@
 -- The words of a when clause, one behind the other.
 -- Assumes nothing.
 use native.Mathlib.Omega.{arith}
-use mathlib.Core.Path.{◌∙◌}
 use Rattle.model.specs.Words.{listed}
 use Rattle.grammar.specs.Words.{spelled}
-use Rattle.pen.proofs.Puts.{puts_length}
 use Rattle.classtext.proofs.ClassLaws.{when_small, when_puts}
-use borrow.Author.Rules.{rules}
 use Rattle.classtext.proofs.put_when.Goals as goal
 
 pub guard_place-requires : goal.guard_place-requires

@@ -1,16 +1,14 @@
 -- `put_whens` meets its contract. The loop's invariant: whoever writes the clauses that are left has written all.
 -- Assumes nothing.
 use Prim.Native.Nat.{◌+◌, ◌-◌}
-use native.Mathlib.Omega.{arith}
 use Rattle.model.specs.Words.{listed}
 use Rattle.sheet.specs.Contents.{bodies}
 use Rattle.encoding.specs.Encoding.{gathered}
 use Rattle.lists.specs.Lent.{lent}
-use Rattle.pen.proofs.Puts.{Going, going_none, going_on, going_end}
+use Rattle.pen.proofs.Puts.{Going}
 use Rattle.sheet.specs.Reading.{when_in}
 use Rattle.writings.specs.Layout.{when_text}
 use Rattle.classtext.specs.ClassText.{own_actions, whens_text}
-use Rattle.classtext.proofs.ClassLaws.{one_less, none_left, whens_start, when_of_state}
 use Rattle.classtext.proofs.put_whens.Given as goal
 
 abbrev pub invariant-loop-i : goal.invariant-loop-i
