@@ -1,5 +1,6 @@
 // The class text of an accepted sheet: refusals 17, 19 and 15 in that order, then the text. Its length is known before the first byte is written.
 #![tactic(auto)]
+
 ghost use Rattle.sheet.specs.Reading.{class_of};
 ghost use Rattle.sheet.specs.Verdict.{Stands};
 ghost use Rattle.writings.specs.Writings.{named};
