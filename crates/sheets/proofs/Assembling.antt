@@ -4,8 +4,8 @@ use Prim.Native.Nat.{ℕ, ◌+◌, ◌*◌, ◌/◌, ◌%◌, ◌<◌, ◌≤◌
 use native.Mathlib.Omega.{arith}
 use mathlib.Core.Path.{◌≡◌, refl, sym, ◌∙◌, ap, subst}
 use mathlib.Core.List.{List, [], ◌∷◌, ◌++◌, map, append-nil}
-use lib.ListN.{length, take, drop, length-append, length-map}
-use lib.Seq.{sets, sets-eq}
+use lib.ListN.{length, drop, length-append, length-map}
+use lib.Seq.{sets-eq}
 use Rattle.model.specs.Tree.{Class}
 use Rattle.model.specs.Replies.{written}
 use Rattle.encoding.specs.Records.{fours, eights, number}
@@ -30,7 +30,7 @@ use Rattle.sizes.specs.declared.Sizes.{Sizes}
 use Rattle.clauses.specs.Bodies.{WritesStates, WritesActions}
 use Rattle.whens.specs.Whens.{WritesWhens}
 use Rattle.statements.specs.Statements.{WritesStatements}
-use Rattle.sheets.specs.Sheets.{body_size, body_sizes, sheet_size, table_size}
+use Rattle.sheets.specs.Sheets.{body_sizes, sheet_size, table_size}
 use Rattle.laying.specs.Laying.{contents_bytes, sets_bytes}
 use Rattle.laying.proofs.SheetParts.{contents_are, sets_are}
 

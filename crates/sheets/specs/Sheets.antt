@@ -1,7 +1,6 @@
 -- The lengths of a sheet's bodies, and what the function that writes a sheet promises.
 -- Assumes nothing.
 use Rattle.std.specs.Prelude.{ℕ, ◌+◌, ◌*◌, ◌%◌, ◌≡◌, true, List, [], ◌∷◌}
-use Rattle.model.specs.Words.{Bytes}
 use Rattle.grammar.specs.Grammar.{Text}
 use Rattle.grammar.specs.Reading.{Says}
 use Rattle.naming.specs.Naming.{class_in}

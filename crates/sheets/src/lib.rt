@@ -1,5 +1,6 @@
 // The sheet of a text, written body by body into a lent buffer.
 #![tactic(auto)]
+
 ghost use Rattle.std.specs.Prelude.{◌≡◌};
 ghost use Rattle.sheets.specs.Sheets.{body_size, states_size, body_sizes, sheet_size, table_size, WritesSheet};
 
