@@ -101,6 +101,7 @@ def main():
                 print(f"look: {p}: {' '.join(sorted(olds))} fall together as {new}")
         parts = (RUST if p.endswith(".rt") else SPEC).split(t)
         new = "".join(quiet(x, p, declared, theirs) if i % 2 else DASHED.sub(turn, x) for i, x in enumerate(parts))
+        new = re.sub(r"(?<![\w.])get_d_past(?!\w)", "get_or_past", new)
         if new != t:
             changed += 1
             if not look:

@@ -13,7 +13,7 @@ use lib.Seq.{take-suc, drop-cons, append_snoc, get_or-take, get_or-drop}
 use borrow.Author.Tests.{eq-eqb, ne_eqb, lt-ltb, le-ltb, leb-true, leb-false}
 use Rattle.model.specs.Words.{every, listed, each, has}
 use Rattle.model.proofs.Words.{clash, and_left, and_right, not_not_true, each_broken, each_all}
-use Rattle.model.proofs.Lists.{get_or_listed, get_d_past}
+use Rattle.model.proofs.Lists.{get_or_listed, get_or_past}
 use Rattle.records.specs.Bytes.{u32}
 use Rattle.grammar.specs.Words.{same, is_name}
 use Rattle.grammar.proofs.Words.{same_length}
@@ -130,7 +130,7 @@ module _ (r w : List ℕ) (e : length r ≡ 32) where
 -- the name set of a class
 pub set_past : (b : List ℕ) (i : ℕ) → length b / 36 ≤ i → 0 ≡ get_or (sets_in b) i 0
 unfolding sets_in
-set_past b i l = sym (get_d_past 0 (length b / 36) (λ i. u32 b (i * 36 + 32)) 0 i l)
+set_past b i l = sym (get_or_past 0 (length b / 36) (λ i. u32 b (i * 36 + 32)) 0 i l)
 
 pub set_there : (b : List ℕ) (i n : ℕ) → i < length b / 36 → 36 ≤ n → u32 (take n (drop (i * 36) b)) 32 ≡ get_or (sets_in b) i 0
 unfolding sets_in

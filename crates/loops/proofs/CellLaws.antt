@@ -16,7 +16,7 @@ use Rattle.model.specs.Words.{has, kept, keep, listed}
 use Rattle.model.specs.Tree.{Child}
 use Rattle.model.specs.Unique.{LeavesOne}
 use Rattle.model.proofs.Words.{lt_or_le}
-use Rattle.model.proofs.Lists.{length_listed, get_or_listed, get_d_past, mem_listed, keep_mem, listed_more, keep_append, listed_same}
+use Rattle.model.proofs.Lists.{length_listed, get_or_listed, get_or_past, mem_listed, keep_mem, listed_more, keep_append, listed_same}
 use Rattle.model.proofs.Unique.{equations}
 use Rattle.bodies.specs.Clauses.{name_set}
 use Rattle.records.specs.Bytes.{in_fours}
@@ -186,7 +186,7 @@ entry_small n f b p h i = go (lt_or_le i n)
   where
     go : (i < n) ⊎ (n ≤ i) → get_or (listed 0 n f) i 0 < b
     go (inl l) = rw (get_or_listed 0 n f 0 i i l (omega arith)) (h i)
-    go (inr l) = rw (get_d_past 0 n f 0 i l) p
+    go (inr l) = rw (get_or_past 0 n f 0 i l) p
 
 pub twenty_small : (ks : List Child) → ((k : Child) → Memᴰ k ks → Small k) → AllSmall (first_twenty ks)
 unfolding first_twenty

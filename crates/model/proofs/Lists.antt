@@ -23,12 +23,12 @@ get_or_listed i zero f d j a l e = absurd (omega arith)
 get_or_listed i (suc n) f d zero a l e = ap f (let h : i ≡ a = omega arith in h)
 get_or_listed i (suc n) f d (suc j) a l e = get_or_listed (suc i) n f d j a (omega arith) (omega arith)
 
-pub get_d_past {ℓ} : {A : Type ℓ} (i n : ℕ) (f : ℕ → A) (d : A) (j : ℕ) → n ≤ j → get_or (listed i n f) j d ≡ d
+pub get_or_past {ℓ} : {A : Type ℓ} (i n : ℕ) (f : ℕ → A) (d : A) (j : ℕ) → n ≤ j → get_or (listed i n f) j d ≡ d
 unfolding listed
-get_d_past i zero f d zero l = refl
-get_d_past i zero f d (suc j) l = refl
-get_d_past i (suc n) f d zero l = absurd (omega arith)
-get_d_past i (suc n) f d (suc j) l = get_d_past (suc i) n f d j (omega arith)
+get_or_past i zero f d zero l = refl
+get_or_past i zero f d (suc j) l = refl
+get_or_past i (suc n) f d zero l = absurd (omega arith)
+get_or_past i (suc n) f d (suc j) l = get_or_past (suc i) n f d j (omega arith)
 
 pub listed_mem {ℓ} : {A : Type ℓ} (i n : ℕ) (f : ℕ → A) (j a : ℕ) → j < n → a ≡ i + j → Memᴰ (f a) (listed i n f)
 unfolding listed

@@ -14,7 +14,7 @@ use Rattle.model.specs.Node.{own_states, state_of}
 use Rattle.model.specs.Crews.{child_classes}
 use Rattle.model.proofs.Words.{lt_or_le}
 use Rattle.model.proofs.RunLaws.{part_size}
-use Rattle.model.proofs.Lists.{length_listed, get_or_listed, get_d_past, mem_listed}
+use Rattle.model.proofs.Lists.{length_listed, get_or_listed, get_or_past, mem_listed}
 use Rattle.sheet.specs.Contents.{Bodies}
 use Rattle.bodies.specs.Clauses.{name_set, count_at, count_sum, when_count, action_count, first_when, first_action, body_of}
 use Rattle.records.specs.Bytes.{in_fours, in_eights}
@@ -43,7 +43,7 @@ module _ (s : Bodies) where
 
   pub state_of_past : (q : ℕ) → in_fours s.states ≤ q → state_of (class_in s) q ≡ no_state
   unfolding class_in
-  state_of_past q l = get_d_past 0 (in_fours s.states) (state_in s) no_state q l
+  state_of_past q l = get_or_past 0 (in_fours s.states) (state_in s) no_state q l
 
   -- the clauses of one kind: state q lists them from its first on, as many as its record says
   module _ {A : Type 0} (clauses : State → List A) (offset : ℕ) (read : ℕ → A) (reads : (q : ℕ) → clauses (state_in s q) ≡ listed (count_sum s.states offset q) (count_at s.states offset q) read) (none : clauses no_state ≡ []) where

@@ -10,7 +10,7 @@ use lib.Dec.{eqb, leb}
 use lib.ListN.{length, take, drop, length-map}
 use borrow.Author.Tests.{ne_eqb, le-leb, lt-leb, eqb-true, eqb-false}
 use Rattle.model.specs.Words.{keep, listed, has}
-use Rattle.model.proofs.Lists.{get_or_listed, get_d_past}
+use Rattle.model.proofs.Lists.{get_or_listed, get_or_past}
 use Rattle.model.proofs.Words.{lt_or_le}
 use Rattle.grammar.specs.Grammar.{Name}
 use Rattle.grammar.specs.Words.{spelled}
@@ -38,7 +38,7 @@ module _ (size : ℕ) (b : List ℕ) (i n : ℕ) (k : Count b size n) where
   unfolding name_at records_in characters
   name_past l =
       let m : length b / size ≤ i = rw (← k.is) l in
-      ap characters (sym (get_d_past 0 (length b / size) (λ j. take 32 (drop (j * size) b)) [] i m))
+      ap characters (sym (get_or_past 0 (length b / size) (λ j. take 32 (drop (j * size) b)) [] i m))
 
 -- the word for all children, and the name of a class
 pub kin_all : (classes : List ℕ) (p : Pattern) → p ≡ Everyone → spelled "FwCHILDREN" ≡ kin_text classes (pattern_as p)
