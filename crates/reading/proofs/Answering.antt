@@ -7,7 +7,7 @@ use mathlib.Core.Bool.{Bool, true, false, ◌&&◌, and-false}
 use mathlib.Core.List.{List, map}
 use lib.Dec.{leb}
 use lib.ListN.{length, take, drop}
-use mathlib.Core.Logic.{inl, inr}
+use mathlib.Core.Logic.{inr}
 use lib.Seq.{sets}
 use Rattle.naming.proofs.TableLaws as Table
 use borrow.Author.Tests.{lt-leb, le-leb, leb-true}
@@ -26,7 +26,7 @@ use Rattle.recognised.specs.declared.Found.TheVariants.{Wrong, Fine}
 use Rattle.model.specs.declared.Refusal.TheVariants.{Room, Naming, Limit}
 use Rattle.naming.specs.NameLists.{Lists, class_sets, class_names, child_names, command_names, records_in, lists_right, lists_within, padded}
 use Rattle.lists.specs.Lent.{sets_in}
-use Rattle.naming.specs.Naming.{class_in, own_names, table_of, joined}
+use Rattle.naming.specs.Naming.{class_in, table_of, joined}
 use Rattle.naming.specs.Known.{text_known}
 use Rattle.encoding.specs.Within.{Within}
 use Rattle.sizes.specs.Sized.{sizes_in, Sized}
@@ -47,10 +47,10 @@ use Rattle.own.proofs.Trees.{own_from}
 use Rattle.laying.specs.Laying.{table_bytes}
 use Rattle.sheets.specs.Sheets.{sheet_size, table_size, WritesSheet}
 use Rattle.sheets.proofs.Assembling.{sheet_size_is, table_size_is}
-use Rattle.readings.specs.Readings.{Lent, class_for, sheet_for, own_states, known, within, room, filled, wrong, refused, read, unwritten, outcome, Answers}
+use Rattle.readings.specs.Readings.{Lent, class_for, sheet_for, own_states, known, within, room, filled, refused, read, unwritten, outcome, Answers}
 use Rattle.readings.proofs.ReadLaws.{states_counted}
-use Rattle.readings.proofs.WaysOut.{written_sets, goes_wrong, lists_wrong, name_unknown, all_known, lists_passed, limit_passed, room_wanting, is_read}
-use Rattle.readings.specs.Promise.{came, Answered}
+use Rattle.readings.proofs.WaysOut.{written_sets, goes_wrong, lists_wrong, name_unknown, all_known, room_wanting, is_read}
+use Rattle.readings.specs.Promise.{Answered}
 use Rattle.reading.specs.Ways.{OfText, OfKnown, OfWithin}
 
 -- 16

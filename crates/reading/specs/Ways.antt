@@ -1,6 +1,6 @@
 -- What the functions promise that read a text of the grammar, each where what was tested before it passed.
 -- Assumes nothing.
-use Rattle.std.specs.Prelude.{ℕ, ◌≡◌, Bool, true, List}
+use Rattle.std.specs.Prelude.{ℕ, ◌≡◌, true, List}
 use Rattle.model.specs.declared.ReadAnswer.{ReadAnswer}
 use Rattle.grammar.specs.Grammar.{Text}
 use Rattle.grammar.specs.Reading.{Says}

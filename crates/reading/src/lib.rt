@@ -1,5 +1,6 @@
 // Reading a class text: 16, then 17, 18 and 15, each over the whole text and all lists before the next; nothing is written before all is known.
 #![tactic(auto)]
+
 ghost use Rattle.std.specs.Prelude.{◌≡◌, length};
 ghost use Rattle.readings.specs.Promise.{asked, Answered};
 ghost use Rattle.reading.specs.Ways.{OfText, OfKnown, OfWritten};
