@@ -1,7 +1,6 @@
 -- `occupied_names` meets its contract: the union for all children, one set for a class below 8, and no name for any other class.
 -- Assumes nothing.
 use native.Mathlib.Omega.{arith}
-use borrow.Author.Rules.{rules}
 use Rattle.children.proofs.CrewLaws.{names_all, names_one, names_none}
 use Rattle.children.proofs.crews.occupied_names.Goals as goal
 

@@ -1,8 +1,7 @@
 -- `occupy` meets its contract. The loop goes from the last pair down; its invariant, `Down`: the 8 sets show the children from pair i on.
 -- Assumes nothing.
 use native.Mathlib.Omega.{arith}
-use borrow.Author.Rules.{rules}
-use Rattle.children.proofs.CrewLaws.{Down, room, down_start, down_more, down_past, down_end}
+use Rattle.children.proofs.CrewLaws.{room, down_start, down_more, down_past, down_end}
 use Rattle.children.proofs.crews.occupy.Goals as goal
 
 pub loop-i-init : goal.loop-i-init

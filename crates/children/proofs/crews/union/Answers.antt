@@ -1,6 +1,5 @@
 -- `union` meets its contract. The loop's invariant: `all` is the union of the first i sets.
 -- Assumes nothing.
-use Prim.Native.Nat.{◌≤◌, ◌-◌}
 use native.Mathlib.Omega.{arith}
 use mathlib.Core.Path.{◌≡◌, ap, ◌∙◌}
 use borrow.Author.Rules.{rules}

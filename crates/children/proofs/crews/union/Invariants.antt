@@ -1,11 +1,8 @@
 -- `union` meets its contract. The loop's invariant: `all` is the union of the first i sets.
 -- Assumes nothing.
 use Prim.Native.Nat.{◌≤◌, ◌-◌}
-use native.Mathlib.Omega.{arith}
-use mathlib.Core.Path.{◌≡◌, ap, ◌∙◌}
-use borrow.Author.Rules.{rules}
+use mathlib.Core.Path.{◌≡◌}
 use Rattle.children.specs.NameSets.{union_of}
-use Rattle.children.proofs.CrewLaws.{union_more}
 use Rattle.children.proofs.crews.union.Given as goal
 
 abbrev pub invariant-loop-i : goal.invariant-loop-i

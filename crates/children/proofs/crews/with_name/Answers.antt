@@ -1,6 +1,5 @@
 -- `with_name` meets its contract: `1 << name` is 2 to the name, which does not wrap below 32.
 -- Assumes nothing.
-use borrow.Author.Rules.{rules}
 use Rattle.children.proofs.CrewLaws.{one_shifted}
 use Rattle.children.proofs.crews.with_name.Goals as goal
 

@@ -1,7 +1,6 @@
 -- `child_ok` meets its contract: a law for each way out.
 -- Assumes nothing.
 use native.Mathlib.Omega.{arith}
-use borrow.Author.Rules.{rules}
 use Rattle.children.proofs.ListLaws.{class_past, name_past, name_told}
 use Rattle.children.proofs.lists.child_ok.Goals as goal
 

@@ -1,9 +1,7 @@
 -- `list_ok` meets its contract. The loop goes from the last pair down; its invariant, `Checked`: the children from pair i on are right.
 -- Assumes nothing.
 use native.Mathlib.Omega.{arith}
-use borrow.Author.Rules.{rules}
-use borrow.Author.Tests.{not-true, not-false}
-use Rattle.children.proofs.ListLaws.{Checked, checked_start, checked_more, checked_wrong, odd_wrong, long_wrong, checked_end}
+use Rattle.children.proofs.ListLaws.{checked_start, checked_more, checked_wrong, odd_wrong, long_wrong, checked_end}
 use Rattle.children.proofs.lists.list_ok.Goals as goal
 
 pub returns-then-n-ne0 : goal.returns-then-n-ne0
