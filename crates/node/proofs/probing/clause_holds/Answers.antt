@@ -1,6 +1,5 @@
 -- `clause_holds` meets its contract: the guard that begins at the clause's place, on the sets.
 -- Assumes nothing.
-use borrow.Author.Rules.{rules}
 use Rattle.node.proofs.ProbeLaws.{clause_told}
 use Rattle.node.proofs.probing.clause_holds.Goals as goal
 

@@ -1,9 +1,7 @@
 -- `first_true` meets its contract. The loop's invariant, `NoneBefore`: no clause before the i-th is true.
 -- Assumes nothing.
-use Prim.Native.Nat.{◌-◌}
 use mathlib.Core.Path.{sym, ◌∙◌}
-use borrow.Author.Rules.{rules}
-use Rattle.node.proofs.ProbeLaws.{NoneBefore, none_start, none_more, none_hit, hit_here}
+use Rattle.node.proofs.ProbeLaws.{none_start, none_more, none_hit, hit_here}
 use Rattle.node.proofs.probing.first_true.Goals as goal
 
 pub loop-i-init : goal.loop-i-init

@@ -1,7 +1,6 @@
 -- `probe` meets its contract: what `first_true` answers is what the tree's probe finds.
 -- Assumes nothing.
 use native.Mathlib.Omega.{arith}
-use borrow.Author.Rules.{rules}
 use Rattle.node.proofs.ProbeLaws.{hit_some, probes_none, probes_found}
 use Rattle.node.proofs.probing.probe.Goals as goal
 

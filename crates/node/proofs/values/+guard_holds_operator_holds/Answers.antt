@@ -1,14 +1,10 @@
 -- `guard_holds` and `operator_holds` answer the value of the guard that the rules read: a law for each way out. The records left fall from a
 -- guard to its operands, the operators left on the path from an operator to each operand.
 -- Assumes nothing.
-use borrow.Author.Rules.{rules}
-use Prim.Native.Nat.{ℕ, ◌<◌, ◌+◌, ◌-◌, ◌/◌}
 use native.Mathlib.Omega.{arith}
-use mathlib.Core.Path.{◌≡◌, refl, sym, ◌∙◌, ap}
-use lib.ListN.{length}
+use mathlib.Core.Path.{refl, sym, ◌∙◌, ap}
 use borrow.Enum.Refused.{opened}
 use Rattle.records.specs.Records.{operator_as, record_as}
-use Rattle.records.specs.declared.guards.GuardRecord.{GuardRecord}
 use Rattle.records.proofs.GuardLaws.{known_there, on_two, on_either}
 use Rattle.node.proofs.ValueLaws.{value_behind, value_as, value_atom, value_deep, value_first, value_one, value_second, value_both, value_either}
 use Rattle.node.proofs.values.+guard_holds_operator_holds.Goals as goal

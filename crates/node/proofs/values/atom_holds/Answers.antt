@@ -2,7 +2,6 @@
 -- Assumes nothing.
 use native.Mathlib.Omega.{arith}
 use mathlib.Core.Path.{ap}
-use borrow.Author.Rules.{rules}
 use Rattle.records.specs.Records.{kind_as}
 use Rattle.node.proofs.ValueLaws.{any_met, any_left, none_left, none_met}
 use Rattle.node.proofs.values.atom_holds.Goals as goal

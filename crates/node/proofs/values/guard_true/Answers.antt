@@ -1,6 +1,5 @@
 -- `guard_true`: the truth of the evaluator's value.
 -- Assumes nothing.
-use borrow.Author.Rules.{rules}
 use mathlib.Core.Path.{sym, ◌∙◌}
 use Rattle.node.proofs.ValueLaws.{truth_holds, truth_broken}
 use Rattle.node.proofs.values.guard_true.Goals as goal
