@@ -2,6 +2,7 @@
 // second head as it stands, and the class text. The first head names the class and its own states. Where something is refused there is no
 // output, and one line on standard error says why.
 #![tactic(auto)]
+
 mod converting;
 mod gaps;
 mod messages;
