@@ -2,13 +2,9 @@
 -- With each call the bytes get fewer, but for the call of `run_if`, whose measure is one less on the same bytes.
 -- Assumes nothing.
 use borrow.Author.Rules.{rules}
-use Prim.Native.Nat.{ℕ, ◌+◌, ◌*◌, ◌<◌}
 use native.Mathlib.Omega.{arith}
-use mathlib.Core.Path.{◌≡◌, sym, ◌∙◌}
+use mathlib.Core.Path.{sym, ◌∙◌}
 use mathlib.Core.Bool.{true, false}
-use lib.ListN.{length}
-use Rattle.bodies.specs.StatementReaders.{statement_record}
-use Rattle.bodies.specs.declared.statements.StatementRecord.{StatementRecord}
 use Rattle.bodies.specs.declared.statements.StatementRecord.TheVariants.{Do, If}
 use Rattle.bodies.proofs.ReaderLaws.{told, behind_falls, parts_fall}
 use Rattle.running.proofs.RunLaws.{room_send, room_sent, room_in, room_ran, run_in, run_nothing, run_go, run_sent, run_moved, run_on}

@@ -1,6 +1,5 @@
 -- `is_meant`: every child is one of all; of one class, those of that class.
 -- Assumes nothing.
-use borrow.Author.Rules.{rules}
 use Rattle.running.proofs.SendLaws.{all_meant, one_meant}
 use Rattle.running.proofs.is_meant.Goals as goal
 

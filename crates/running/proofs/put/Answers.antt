@@ -2,7 +2,6 @@
 -- Assumes nothing.
 use Rattle.running.proofs.SendLaws.{stored}
 use Prim.Native.Nat.{◌%◌}
-use borrow.Author.Rules.{rules}
 use Rattle.running.proofs.put.Goals as goal
 
 pub returns : goal.returns

@@ -3,9 +3,8 @@
 use Prim.Native.Nat.{ℕ, ◌+◌}
 use native.Mathlib.Omega.{arith}
 use mathlib.Core.Path.{ap}
-use borrow.Author.Rules.{rules}
 use Rattle.sheet.proofs.Rules.{accepted_right}
-use Rattle.running.proofs.ActionLaws.{ActionRead, action_read, statements_room, statements_run}
+use Rattle.running.proofs.ActionLaws.{action_read, statements_room, statements_run}
 use Rattle.running.proofs.run_action.Goals as goal
 
 pub overflow_add-first : goal.overflow_add-first

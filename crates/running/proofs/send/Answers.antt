@@ -1,10 +1,6 @@
 -- The loop goes from the first pair on; its invariant, `Sending`: with what is left to be sent the buffer is as it is to be.
 -- Assumes nothing.
-use Prim.Native.Nat.{◌-◌, ◌/◌}
-use borrow.Author.Rules.{rules}
-use lib.ListN.{length}
-use Rattle.records.specs.Patterns.{pattern_as}
-use Rattle.running.proofs.SendLaws.{Sending, sent_told, send_more, send_past, send_end}
+use Rattle.running.proofs.SendLaws.{sent_told, send_more, send_past, send_end}
 use Rattle.running.proofs.send.Goals as goal
 
 pub loop-i-preserved-then-meant : goal.loop-i-preserved-then-meant

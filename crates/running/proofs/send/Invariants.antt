@@ -1,10 +1,9 @@
 -- The loop goes from the first pair on; its invariant, `Sending`: with what is left to be sent the buffer is as it is to be.
 -- Assumes nothing.
 use Prim.Native.Nat.{◌-◌, ◌/◌}
-use borrow.Author.Rules.{rules}
 use lib.ListN.{length}
 use Rattle.records.specs.Patterns.{pattern_as}
-use Rattle.running.proofs.SendLaws.{Sending, sent_told, send_more, send_past, send_end}
+use Rattle.running.proofs.SendLaws.{Sending}
 use Rattle.running.proofs.send.Given as goal
 
 abbrev pub invariant-loop-i : goal.invariant-loop-i
