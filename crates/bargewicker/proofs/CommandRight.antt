@@ -153,7 +153,10 @@ module _ (b l : List ℕ) (q : ℕ) (a : Asked b l q) (m : ℕ) (small : m ≤ 6
           handling = handling_right c ks q m x (values_told all out final x p so).0;
           room = omega (arith, both_fit all out final x p so, own_three first);
           front = front;
-          phase = rw (← cut_at out, ← cut_at final) (phase_is_right _ (sym left_is) (drop n out) (W.Given p) (drop n final) (phase_told all out final x p so));
+          phase =
+              subst (λ (o : List ℕ). PhaseRight c ks (left_in x).0 o (behind (own_sends first) final) (W.Given p)) (cut_at out)
+              (subst (λ (f : List ℕ). PhaseRight c ks (left_in x).0 (drop n out) f (W.Given p)) (cut_at final)
+              (phase_is_right _ (sym left_is) (drop n out) (W.Given p) (drop n final) (phase_told all out final x p so)));
         }
 
     pub same_phase : SamePhase b l x p out final

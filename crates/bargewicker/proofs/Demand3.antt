@@ -31,7 +31,7 @@ module _ (b : List ℕ) (present : ℕ) (out : List ℕ) (asked_so : AskedLoop b
   unfolding reply
   given_reply a e =
       asked b (λ c. told_as looped (reply_loop c present out)) asked_so.accepted
-      ∙ ap (told_as looped) (loop_reply (class_of b) present out asked_so.bits asked_so.names asked-so.room a (sym e))
+      ∙ ap (told_as looped) (loop_reply (class_of b) present out asked_so.bits asked_so.names asked_so.room a (sym e))
 
   pub demand_3 : Demand3 (class_of b) present out final r
   unfolding values bytes_of_loops

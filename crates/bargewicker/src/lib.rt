@@ -2,6 +2,7 @@
 // a refusal writes no byte into a lent buffer. What each answer means is in specs/: Questions.antt, Numbers.antt and Promises.antt; of a
 // class text in the specs/ of readings.
 #![tactic(auto)]
+
 ghost use Rattle.std.specs.Prelude.{◌≡◌, []};
 ghost use Rattle.sheet.specs.Verdict.{Stands};
 ghost use Rattle.sheet.specs.Reading.{class_of};

@@ -1,0 +1,17 @@
+-- `command` asks where the judge accepts, and gives its refusal where it does not.
+-- Assumes nothing.
+use mathlib.Core.Path.{refl}
+use Rattle.sheet.proofs.AskedLaws.{stands, refused_too}
+use Rattle.bargewicker.specs.Questions.{command_in, placed, reply}
+use Rattle.bargewicker.proofs.PromiseLaws.{refused_so}
+use borrow.Author.Rules.{rules}
+use Rattle.bargewicker.proofs.command.Goals as goal
+
+pub command_in-requires : goal.command_in-requires
+command_in-requires c = stands _ _ c.judge-verdict.ensures _ c.in-Accepted.is
+
+pub returns-in-Refused : goal.returns-in-Refused
+unfolding reply placed
+returns-in-Refused c =
+    let a = c.args in
+    refused_so (command_in a.sheet.now a.children.now a.state a.command a.out.now) c.in-Refused.x (refused_too _ _ c.judge-verdict.ensures _ c.in-Refused.is _) _ refl

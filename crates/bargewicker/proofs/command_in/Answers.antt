@@ -1,0 +1,38 @@
+-- `command_in`: 10, 11 and 12, then what handling the command, and the phase behind it, come to.
+-- Assumes nothing.
+-- the list and the state are right
+use native.Mathlib.Omega.{arith}
+use mathlib.Core.Path.{◌≡◌, refl}
+use lib.ListN.{length}
+use Rattle.model.specs.Tree.{Class}
+use Rattle.sheet.specs.Reading.{class_of}
+use Rattle.model.specs.Replies.{Reply}
+use Rattle.children.proofs.ListLaws.{list_short}
+use Rattle.bargewicker.specs.Questions.{Answer, command_in, placed, reply}
+use Rattle.bargewicker.proofs.PlacingLaws.{not_fitting, fitting, right_list, asked_low, crew}
+use Rattle.bargewicker.proofs.PromiseLaws.{refused_so, over_so, commanded_so}
+use borrow.Author.Rules.{rules}
+use Rattle.bargewicker.proofs.command_in.Goals as goal
+
+pub returns-in-Refused : goal.returns-in-Refused
+unfolding reply
+returns-in-Refused c =
+    let a = c.args in
+    refused_so (command_in a.sheet.now a.children.now a.state a.command a.out.now) c.in-Refused.x
+    (not_fitting _ _ c.requires _ _ _ c.place-placing.ensures _ c.in-Refused.is _) _ refl
+
+pub returns-then-command-gt63 : goal.returns-then-command-gt63
+returns-then-command-gt63 c = over_so _ _ _ (fitting _ _ c.requires _ _ _ c.place-placing.ensures c.in_default.is) _ _ (omega arith) _ refl
+
+pub handle-requires-clause-stands : goal.handle-requires-clause-stands
+handle-requires-clause-stands c = let e = c.place-placing.ensures in
+    let t = c.in_default.is in
+    let n : length c.occupy.result ≡ 8 = omega arith in (c.requires, record { crewed = crew _ _ c.requires _ _ _ e t _ n c.occupy.ensures; short = list_short _ c.requires.accepted _ (right_list _ _ c.requires _ _ _ e t) })
+
+pub handle-requires-clause-q_bound : goal.handle-requires-clause-q_bound
+handle-requires-clause-q_bound c = let e = c.place-placing.ensures in
+    let t = c.in_default.is in
+    let n : length c.occupy.result ≡ 8 = omega arith in asked_low _ _ c.requires _ _ _ e t
+
+pub returns : goal.returns
+returns c = commanded_so _ _ _ (fitting _ _ c.requires _ _ _ c.place-placing.ensures c.in_default.is) _ _ (omega arith) c.handle.result _ c.handle.ensures

@@ -1,0 +1,31 @@
+-- `phase_from`: 10 and 11, then what the phase comes to on the children of the list.
+-- Assumes nothing.
+use native.Mathlib.Omega.{arith}
+use mathlib.Core.Path.{◌≡◌, refl}
+use lib.ListN.{length}
+use Rattle.children.proofs.ListLaws.{list_short}
+use Rattle.bargewicker.specs.Questions.{phase_from, reply}
+use Rattle.bargewicker.proofs.PlacingLaws.{not_fitting, fitting, right_list, asked_low, crew}
+use Rattle.bargewicker.proofs.PromiseLaws.{refused_so, phased_so}
+use borrow.Author.Rules.{rules}
+use Rattle.bargewicker.proofs.phase_from.Goals as goal
+
+pub returns-in-Refused : goal.returns-in-Refused
+unfolding reply
+returns-in-Refused c =
+    let a = c.args in
+    refused_so (phase_from a.sheet.now a.children.now a.state a.out.now) c.in-Refused.x
+    (not_fitting _ _ c.requires _ _ _ c.place-placing.ensures _ c.in-Refused.is _) _ refl
+
+pub when_phase-requires-clause-stands : goal.when_phase-requires-clause-stands
+when_phase-requires-clause-stands c = let e = c.place-placing.ensures in
+    let t = c.in_default.is in
+    let n : length c.occupy.result ≡ 8 = omega arith in (c.requires, record { crewed = crew _ _ c.requires _ _ _ e t _ n c.occupy.ensures; short = list_short _ c.requires.accepted _ (right_list _ _ c.requires _ _ _ e t) })
+
+pub when_phase-requires-clause-q_bound : goal.when_phase-requires-clause-q_bound
+when_phase-requires-clause-q_bound c = let e = c.place-placing.ensures in
+    let t = c.in_default.is in
+    let n : length c.occupy.result ≡ 8 = omega arith in asked_low _ _ c.requires _ _ _ e t
+
+pub returns : goal.returns
+returns c = phased_so _ _ _ (fitting _ _ c.requires _ _ _ c.place-placing.ensures c.in_default.is) _ c.when_phase.result _ c.when_phase.ensures
