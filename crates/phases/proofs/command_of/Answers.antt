@@ -1,6 +1,5 @@
 -- `command_of` meets its contract: the command of the action clause behind the first of the state.
 -- Assumes nothing.
-use borrow.Author.Rules.{rules}
 use Rattle.phases.proofs.TurnLaws.{command_read}
 use Rattle.phases.proofs.command_of.Goals as goal
 

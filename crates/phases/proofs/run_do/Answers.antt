@@ -1,7 +1,6 @@
 -- `run_do`: what the clause did decides between a move and the end of the phase.
 -- Assumes nothing.
 use mathlib.Core.Path.{sym, ◌∙◌}
-use borrow.Author.Rules.{rules}
 use Rattle.sheet.proofs.Rules.{accepted_right}
 use Rattle.phases.proofs.TurnLaws.{do_moves, do_stops, command_told}
 use Rattle.phases.proofs.run_do.Goals as goal

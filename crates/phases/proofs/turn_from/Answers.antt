@@ -1,6 +1,5 @@
 -- `turn_from`: a law for each answer of the probe.
 -- Assumes nothing.
-use borrow.Author.Rules.{rules}
 use Rattle.children.specs.ChildList.{children_of}
 use Rattle.sheet.proofs.Rules.{accepted_right}
 use Rattle.phases.proofs.TurnLaws.{do_there, found_do, turns_none, turns_moves, turns_stay, turns_do}

@@ -1,10 +1,8 @@
 -- `walk`: the invariant, `Walking`, says what is known before each turn.
 -- Assumes nothing.
-use borrow.Author.Rules.{rules}
-use Prim.Native.Nat.{◌-◌, ◌≤◌}
 use native.Mathlib.Omega.{arith}
-use mathlib.Core.Path.{refl, ◌∙◌}
-use Rattle.phases.proofs.WalkLaws.{Walking, inside_same, few, walking_start, walking_known, walking_moves, walk_settles, walk_loops}
+use mathlib.Core.Path.{refl}
+use Rattle.phases.proofs.WalkLaws.{inside_same, few, walking_start, walking_known, walking_moves, walk_settles, walk_loops}
 use Rattle.phases.proofs.walk.Goals as goal
 
 pub loop-moves-init : goal.loop-moves-init

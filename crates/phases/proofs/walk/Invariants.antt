@@ -1,10 +1,7 @@
 -- `walk`: the invariant, `Walking`, says what is known before each turn.
 -- Assumes nothing.
-use borrow.Author.Rules.{rules}
-use Prim.Native.Nat.{◌-◌, ◌≤◌}
-use native.Mathlib.Omega.{arith}
-use mathlib.Core.Path.{refl, ◌∙◌}
-use Rattle.phases.proofs.WalkLaws.{Walking, inside_same, few, walking_start, walking_known, walking_moves, walk_settles, walk_loops}
+use Prim.Native.Nat.{◌-◌}
+use Rattle.phases.proofs.WalkLaws.{Walking}
 use Rattle.phases.proofs.walk.Given as goal
 
 abbrev pub invariant-loop-moves : goal.invariant-loop-moves

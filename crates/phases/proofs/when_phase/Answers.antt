@@ -1,7 +1,6 @@
 -- `when_phase`: walked on no buffer, to count, and then on as much of it as is sent.
 -- Assumes nothing.
 use mathlib.Core.Path.{refl}
-use borrow.Author.Rules.{rules}
 use Rattle.running.proofs.SendLaws.{none_before}
 use Rattle.phases.proofs.PhasingLaws.{short_told, settled_told, loops_told}
 use Rattle.phases.proofs.when_phase.Goals as goal
