@@ -1,9 +1,8 @@
 -- The loop's invariant: no clause that it passed is for the command.
 -- Assumes nothing.
-use Prim.Native.Nat.{◌-◌, ◌≤◌}
 use native.Mathlib.Omega.{arith}
 use borrow.Author.Rules.{rules}
-use Rattle.commands.proofs.ClauseLaws.{Passed, passed_more, search_ends, search_finds}
+use Rattle.commands.proofs.ClauseLaws.{passed_more, search_ends, search_finds}
 use Rattle.commands.proofs.clause_for.Goals as goal
 
 pub loop-i-init : goal.loop-i-init

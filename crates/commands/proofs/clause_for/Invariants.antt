@@ -1,9 +1,7 @@
 -- The loop's invariant: no clause that it passed is for the command.
 -- Assumes nothing.
 use Prim.Native.Nat.{◌-◌, ◌≤◌}
-use native.Mathlib.Omega.{arith}
-use borrow.Author.Rules.{rules}
-use Rattle.commands.proofs.ClauseLaws.{Passed, passed_more, search_ends, search_finds}
+use Rattle.commands.proofs.ClauseLaws.{Passed}
 use Rattle.commands.proofs.clause_for.Given as goal
 
 abbrev pub invariant-loop-i : goal.invariant-loop-i

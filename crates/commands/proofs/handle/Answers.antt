@@ -1,9 +1,7 @@
 -- `handle`: the command is run on no buffer, to count; the phase is asked on the buffer behind its bytes; then the command is run on the front.
 -- Assumes nothing.
 -- the run that counts leaves the buffer as it was
-use mathlib.Core.Path.{◌≡◌, refl, ap}
-use mathlib.Core.List.{◌++◌}
-use borrow.Author.Rules.{rules}
+use mathlib.Core.Path.{refl, ap}
 use Rattle.running.proofs.SendLaws.{none_before}
 use Rattle.commands.proofs.HandleLaws.{left_inside}
 use Rattle.commands.proofs.BehindLaws.{short_told, refused_told, given_told}

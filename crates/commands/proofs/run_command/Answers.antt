@@ -2,8 +2,7 @@
 -- Assumes nothing.
 use native.Mathlib.Omega.{arith}
 use Rattle.sheet.proofs.Rules.{accepted_right}
-use Rattle.commands.proofs.HandleLaws.{Chosen, ignored_told, chosen_told, moved_told, ignored_runs, handled_runs}
-use borrow.Author.Rules.{rules}
+use Rattle.commands.proofs.HandleLaws.{ignored_told, chosen_told, moved_told, ignored_runs, handled_runs}
 use Rattle.commands.proofs.run_command.Goals as goal
 
 pub returns-then-hit-n : goal.returns-then-hit-n
