@@ -15,7 +15,6 @@ use Rattle.model.proofs.Words.{below_next, lt_or_le}
 use Rattle.model.proofs.Lists.{get_or_zeros}
 use Rattle.records.specs.Bytes.{in_fours, in_eights}
 use Rattle.bodies.specs.Clauses.{count_sum, when_count, first_when, action_count, first_action, guard_place, statement_count, first_statement}
-use Rattle.bodies.specs.BodyRules.{actions_right}
 use Rattle.bodies.specs.PartChecks.{Reads}
 use Rattle.bodies.proofs.CheckLaws.{sum_none, sum_next}
 use Rattle.bodies.proofs.StatementLaws.{sum_inside}

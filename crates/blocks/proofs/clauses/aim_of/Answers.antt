@@ -1,6 +1,5 @@
 -- `aim_of`: by the referrer.
 -- Assumes nothing.
-use borrow.Author.Rules.{rules}
 use mathlib.Core.Path.{◌≡◌, sym, ap}
 use Prim.Native.Nat.{ℕ}
 use Rattle.model.specs.Answers.{referrer_as}

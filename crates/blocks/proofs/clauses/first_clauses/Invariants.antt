@@ -1,9 +1,7 @@
 -- `first_clauses`: the firsts of the states before q.
 -- Assumes nothing.
-use borrow.Author.Rules.{rules}
 use Prim.Native.Nat.{◌+◌, ◌-◌, ◌≤◌}
-use native.Mathlib.Omega.{arith}
-use Rattle.blocks.proofs.ClauseLaws.{FirstsTo, firsts_start, firsts_more, firsts_end}
+use Rattle.blocks.proofs.ClauseLaws.{FirstsTo}
 use Rattle.blocks.proofs.clauses.first_clauses.Given as goal
 
 abbrev pub invariant-loop-q : goal.invariant-loop-q

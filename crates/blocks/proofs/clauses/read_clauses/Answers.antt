@@ -1,13 +1,9 @@
 -- `read_clauses`: the clauses of the states before q are read.
 -- Assumes nothing.
 -- what `read_clauses` was called with
-use borrow.Author.Rules.{rules}
-use Prim.Native.Nat.{◌-◌, ◌≤◌}
 use native.Mathlib.Omega.{arith}
 use mathlib.Core.Path.{ap}
 use Rattle.records.specs.Bytes.{in_fours}
-use Rattle.sheet.specs.Contents.{body}
-use Rattle.blocks.specs.ClauseTables.{FirstsOf, WhensOf}
 use Rattle.accepted.proofs.ClauseLaws.{states_few, actions_few}
 use Rattle.blocks.proofs.ClauseLaws.{whens_start, state_read, firsts_of, state_lent, read_all}
 use Rattle.blocks.proofs.clauses.read_clauses.Goals as goal

@@ -1,10 +1,7 @@
 -- `read_state`: the clauses before w are read.
 -- Assumes nothing.
-use borrow.Author.Rules.{rules}
 use Prim.Native.Nat.{◌-◌, ◌≤◌}
-use native.Mathlib.Omega.{arith}
 use Rattle.blocks.specs.ClauseTables.{ReadState}
-use Rattle.blocks.proofs.ClauseLaws.{read_start, read_more, read_end}
 use Rattle.blocks.proofs.clauses.read_state.Given as goal
 
 abbrev pub invariant-loop-w : goal.invariant-loop-w

@@ -1,9 +1,7 @@
 -- `statement_starts`: the starts of the action clauses before a, and where the last of them ends.
 -- Assumes nothing.
-use borrow.Author.Rules.{rules}
-use Prim.Native.Nat.{◌-◌, ◌≤◌}
 use native.Mathlib.Omega.{arith}
-use Rattle.blocks.proofs.ClauseLaws.{FromsTo, froms_start, froms_more, froms_end}
+use Rattle.blocks.proofs.ClauseLaws.{froms_start, froms_more, froms_end}
 use Rattle.blocks.proofs.clauses.statement_starts.Goals as goal
 
 pub loop-a-init : goal.loop-a-init

@@ -1,7 +1,6 @@
 -- `block`: no lane counts, or the words, the moves and the levels follow one from the other.
 -- Assumes nothing.
 -- what `block` was called with
-use borrow.Author.Rules.{rules}
 use mathlib.Core.Path.{refl}
 use Rattle.model.proofs.Lists.{get_or_zeros}
 use Rattle.blocks.proofs.BlockLaws.{block_skipped, block_is}

@@ -2,11 +2,9 @@
 -- Assumes nothing.
 -- what `search` was called with
 -- the tables are those of the sheet
-use borrow.Author.Rules.{rules}
 use native.Mathlib.Omega.{arith}
 use mathlib.Core.Path.{ap}
 use lib.ListN.{length}
-use Rattle.blocks.specs.Search.{TablesOf}
 use Rattle.accepted.proofs.ClauseLaws.{guards_short}
 use Rattle.blocks.proofs.SearchLaws.{count_is, tables_of, ready}
 use Rattle.blocks.proofs.search.search.Goals as goal

@@ -1,12 +1,10 @@
 -- `try_blocks`: the configurations before the next block have no loop, and the longest phase in them is known.
 -- Assumes nothing.
 -- the place before the block, from the one where it is called and from the one behind it
-use borrow.Author.Rules.{rules}
-use Prim.Native.Nat.{◌-◌}
 use native.Mathlib.Omega.{arith}
 use mathlib.Core.Path.{refl}
 use Rattle.lanes.proofs.LaneLaws.{lowest_most}
-use Rattle.blocks.proofs.SearchLaws.{Searching, search_start, lent, search_more, search_loop, search_free}
+use Rattle.blocks.proofs.SearchLaws.{search_start, lent, search_more, search_loop, search_free}
 use Rattle.blocks.proofs.search.try_blocks.Goals as goal
 
 pub loop-next-init : goal.loop-next-init
