@@ -1,6 +1,5 @@
 -- `loop_with`: 13, 14 and 15, then the search's answer, and its list in the buffer.
 -- Assumes nothing.
-use borrow.Author.Rules.{rules}
 use native.Mathlib.Omega.{arith}
 use Rattle.loops.proofs.LoopQuestionLaws.{bit_refused, bits_right, CellsRead, many_refused, short_refused, cells_known, found_free, found_loop}
 use Prim.Native.Nat.{ℕ, ◌<◌}

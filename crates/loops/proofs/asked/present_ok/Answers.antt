@@ -1,12 +1,9 @@
 -- `present_ok`: each bit so far is not set, or below K.
 -- Assumes nothing.
 use borrow.Author.Rules.{rules}
-use Prim.Native.Nat.{◌≤◌, ◌-◌}
-use mathlib.Core.Path.{◌≡◌, sym}
-use mathlib.Core.Bool.{true}
-use Rattle.model.specs.Words.{each}
+use mathlib.Core.Path.{sym}
 use Rattle.model.proofs.Words.{each_none}
-use Rattle.loops.proofs.PresentLaws.{bit_right, bit_over, bit_below, bits_all}
+use Rattle.loops.proofs.PresentLaws.{bit_over, bit_below, bits_all}
 use Rattle.loops.proofs.asked.present_ok.Goals as goal
 
 pub loop-i-init : goal.loop-i-init

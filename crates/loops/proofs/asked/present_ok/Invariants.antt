@@ -1,12 +1,10 @@
 -- `present_ok`: each bit so far is not set, or below K.
 -- Assumes nothing.
-use borrow.Author.Rules.{rules}
 use Prim.Native.Nat.{◌≤◌, ◌-◌}
-use mathlib.Core.Path.{◌≡◌, sym}
+use mathlib.Core.Path.{◌≡◌}
 use mathlib.Core.Bool.{true}
 use Rattle.model.specs.Words.{each}
-use Rattle.model.proofs.Words.{each_none}
-use Rattle.loops.proofs.PresentLaws.{bit_right, bit_over, bit_below, bits_all}
+use Rattle.loops.proofs.PresentLaws.{bit_right}
 use Rattle.loops.proofs.asked.present_ok.Given as goal
 
 abbrev pub invariant-loop-i : goal.invariant-loop-i

@@ -2,7 +2,6 @@
 -- Assumes nothing.
 use Rattle.loops.proofs.CellLaws.{cell_past, cell_here}
 use mathlib.Core.Path.{sym}
-use borrow.Author.Rules.{rules}
 use Rattle.loops.proofs.cells.cell_present.Goals as goal
 
 pub returns-then-in_fours-i : goal.returns-then-in_fours-i

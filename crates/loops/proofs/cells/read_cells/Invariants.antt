@@ -1,8 +1,7 @@
 -- `read_cells`: after j pairs the code has read the first twenty of those that are present, and counted all, `Reading`.
 -- Assumes nothing.
-use borrow.Author.Rules.{rules}
 use Prim.Native.Nat.{◌-◌}
-use Rattle.loops.proofs.CellLaws.{Reading, reading_start, reading_more, reading_full, reading_past, reading_end}
+use Rattle.loops.proofs.CellLaws.{Reading}
 use Rattle.loops.proofs.cells.read_cells.Given as goal
 
 abbrev pub invariant-loop-j : goal.invariant-loop-j

@@ -1,9 +1,8 @@
 -- `spread`: from the last cell down, the sets show what is chosen of the cells from i on.
 -- Assumes nothing.
-use borrow.Author.Rules.{rules}
 use Prim.Native.Nat.{◌-◌, ◌<◌}
 use native.Mathlib.Omega.{arith}
-use Rattle.loops.proofs.SpreadLaws.{Spreading, spreading_start, spreading_more, spreading_past, spreading_end}
+use Rattle.loops.proofs.SpreadLaws.{spreading_start, spreading_more, spreading_past, spreading_end}
 use Rattle.loops.proofs.cells.spread.Goals as goal
 
 pub loop-i-init : goal.loop-i-init

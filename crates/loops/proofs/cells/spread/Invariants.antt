@@ -1,10 +1,7 @@
 -- `spread`: from the last cell down, the sets show what is chosen of the cells from i on.
 -- Assumes nothing.
 -- the cell that was read is of a class below 8 and has a name below 32
-use borrow.Author.Rules.{rules}
-use Prim.Native.Nat.{◌-◌, ◌<◌}
-use native.Mathlib.Omega.{arith}
-use Rattle.loops.proofs.SpreadLaws.{Spreading, spreading_start, spreading_more, spreading_past, spreading_end}
+use Rattle.loops.proofs.SpreadLaws.{Spreading}
 use Rattle.loops.proofs.cells.spread.Given as goal
 
 abbrev pub invariant-loop-i : goal.invariant-loop-i

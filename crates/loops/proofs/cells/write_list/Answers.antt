@@ -2,9 +2,7 @@
 -- Assumes nothing.
 use native.Mathlib.Omega.{arith}
 use lib.Seq.{lt-length-set}
-use borrow.Author.Rules.{rules}
-use Prim.Native.Nat.{◌-◌}
-use Rattle.loops.proofs.WritingLaws.{Writing, writing_start, writing_more, writing_past, writing_end}
+use Rattle.loops.proofs.WritingLaws.{writing_start, writing_more, writing_past, writing_end}
 use Rattle.loops.proofs.cells.write_list.Goals as goal
 
 pub loop-next-init : goal.loop-next-init

@@ -1,10 +1,7 @@
 -- `write_list`: the pairs of the cells so far that k chooses are written at the head, `Writing`.
 -- Assumes nothing.
-use native.Mathlib.Omega.{arith}
-use lib.Seq.{lt-length-set}
-use borrow.Author.Rules.{rules}
 use Prim.Native.Nat.{◌-◌}
-use Rattle.loops.proofs.WritingLaws.{Writing, writing_start, writing_more, writing_past, writing_end}
+use Rattle.loops.proofs.WritingLaws.{Writing}
 use Rattle.loops.proofs.cells.write_list.Given as goal
 
 abbrev pub invariant-loop-next : goal.invariant-loop-next

@@ -1,8 +1,7 @@
 -- `comes_back`: the walk so far, `Walking`: after so many moves it is at a state, and has not been at q again.
 -- Assumes nothing.
 use borrow.Author.Rules.{rules}
-use Prim.Native.Nat.{◌-◌}
-use Rattle.loops.proofs.WalkLaws.{Walking, walking_start, walking_out, walking_stops, walking_back, walking_more, walking_all}
+use Rattle.loops.proofs.WalkLaws.{walking_start, walking_out, walking_stops, walking_back, walking_more, walking_all}
 use Rattle.loops.proofs.chase.comes_back.Goals as goal
 
 pub loop-moves-init : goal.loop-moves-init

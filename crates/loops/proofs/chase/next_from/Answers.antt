@@ -1,7 +1,6 @@
 -- `next_from`: a byte for each answer of the turn; a target is below 32, so 255 is none.
 -- Assumes nothing.
 use Rattle.loops.proofs.TableLaws.{moves_byte, stops_byte}
-use borrow.Author.Rules.{rules}
 use Rattle.loops.proofs.chase.next_from.Goals as goal
 
 pub returns-in-Moves : goal.returns-in-Moves

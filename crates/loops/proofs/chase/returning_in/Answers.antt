@@ -1,6 +1,5 @@
 -- `returning_in`: the list that is written is the configuration's, and the sets show it, so the table's moves are the class's.
 -- Assumes nothing.
-use borrow.Author.Rules.{rules}
 use native.Mathlib.Omega.{arith}
 use mathlib.Core.Path.{sym, ◌∙◌}
 use Rattle.accepted.proofs.ClauseLaws.{states_are}

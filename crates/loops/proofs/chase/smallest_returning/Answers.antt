@@ -1,12 +1,6 @@
 -- `smallest_returning`: no state before q comes back.
 -- Assumes nothing.
-use borrow.Author.Rules.{rules}
-use Prim.Native.Nat.{ℕ, ◌-◌, ◌<◌, ◌≤◌}
 use native.Mathlib.Omega.{arith}
-use mathlib.Core.Path.{◌≡◌}
-use mathlib.Core.Bool.{false}
-use Rattle.model.specs.Moves.{returns_soon}
-use Rattle.loops.specs.Chase.{table_next}
 use Rattle.loops.proofs.WalkLaws.{none_start, none_more, smallest_here, smallest_none}
 use Rattle.loops.proofs.chase.smallest_returning.Goals as goal
 

@@ -2,8 +2,7 @@
 -- Assumes nothing.
 use native.Mathlib.Omega.{arith}
 use borrow.Author.Rules.{rules}
-use Prim.Native.Nat.{◌-◌, ◌≤◌}
-use Rattle.loops.proofs.TableLaws.{Tabulating, tabulating_start, tabulating_more, tabulating_end}
+use Rattle.loops.proofs.TableLaws.{tabulating_start, tabulating_more, tabulating_end}
 use Rattle.loops.proofs.chase.tabulate.Goals as goal
 
 pub loop-q-init : goal.loop-q-init

@@ -1,9 +1,7 @@
 -- `tabulate`: the table of the first q states, `Tabulating`; past the last state no move is made.
 -- Assumes nothing.
-use native.Mathlib.Omega.{arith}
-use borrow.Author.Rules.{rules}
 use Prim.Native.Nat.{◌-◌, ◌≤◌}
-use Rattle.loops.proofs.TableLaws.{Tabulating, tabulating_start, tabulating_more, tabulating_end}
+use Rattle.loops.proofs.TableLaws.{Tabulating}
 use Rattle.loops.proofs.chase.tabulate.Given as goal
 
 abbrev pub invariant-loop-q : goal.invariant-loop-q
