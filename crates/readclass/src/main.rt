@@ -1,6 +1,7 @@
 // readclass: reads a class file from standard input, and writes its class sheet to standard output. A file that is refused gives no sheet,
 // and one line on standard error that says where and why.
 #![tactic(auto)]
+
 mod blame;
 mod converting;
 mod messages;
