@@ -15,7 +15,7 @@ use Rattle.records.specs.Bytes.{records, in_fours, in_eights}
 use Rattle.records.proofs.Bytes.{length_records}
 use Rattle.bodies.specs.Clauses.{count_at, count_sum, statement_count, statements_of, body_of}
 use Rattle.bodies.specs.BodyRules.{statements_right}
-use Rattle.sheet.specs.Contents.{Bodies, body}
+use Rattle.sheet.specs.Contents.{Bodies}
 use Rattle.sheet.specs.Reading.{guard_in, when_in, action_in, state_in, class_in}
 use Rattle.sheet.proofs.Rules.{BodiesRight}
 use Rattle.sheet.proofs.Sizes.{all_whens, all_actions, all_statements}

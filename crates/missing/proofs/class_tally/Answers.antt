@@ -1,7 +1,6 @@
 -- `class_tally` meets its contract: all clauses and all statements of the sheet are the class's.
 -- Assumes nothing.
 use native.Mathlib.Omega.{arith}
-use borrow.Author.Rules.{rules}
 use Rattle.missing.proofs.AnswerLaws.{body_short, class_told}
 use Rattle.missing.proofs.class_tally.Goals as goal
 

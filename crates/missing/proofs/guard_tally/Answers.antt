@@ -1,11 +1,7 @@
 -- `guard_tally` meets its contract: the guard's records are those from where it begins to where it ends.
 -- Assumes nothing.
 use native.Mathlib.Omega.{arith}
-use mathlib.Core.Path.{◌≡◌, sym, ◌∙◌}
-use borrow.Author.Rules.{rules}
-use Rattle.records.specs.GuardRecords.{guard_at}
-use Rattle.records.specs.Ends.{end_of}
-use Rattle.records.specs.declared.guards.End.{End}
+use mathlib.Core.Path.{sym, ◌∙◌}
 use Rattle.missing.proofs.GuardTallies.{guard_inside, guard_told, guard_none}
 use Rattle.missing.proofs.guard_tally.Goals as goal
 

@@ -1,6 +1,5 @@
 -- `guards_few` meets its contract: the class's guard records were counted.
 -- Assumes nothing.
-use borrow.Author.Rules.{rules}
 use Rattle.missing.proofs.AnswerLaws.{few_told}
 use Rattle.missing.proofs.guards_few.Goals as goal
 

@@ -1,7 +1,6 @@
 -- `names_right` meets its contract, part by part.
 -- Assumes nothing.
 use native.Mathlib.Omega.{arith}
-use borrow.Author.Rules.{rules}
 use Rattle.missing.proofs.AnswerLaws.{body_short, names_told}
 use Rattle.missing.proofs.names_right.Goals as goal
 

@@ -1,6 +1,5 @@
 -- `own_right` meets its contract: a name of another length is wrong, and else the tests are those of the definition.
 -- Assumes nothing.
-use borrow.Author.Rules.{rules}
 use Rattle.missing.proofs.SetLaws.{name_long, own_told}
 use Rattle.missing.proofs.own_right.Goals as goal
 

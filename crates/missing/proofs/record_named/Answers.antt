@@ -3,7 +3,6 @@
 use Prim.Native.Nat.{ℕ}
 use mathlib.Core.List.{List}
 use mathlib.Core.Path.{◌≡◌, sym, ◌∙◌, ap}
-use borrow.Author.Rules.{rules}
 use Rattle.records.specs.GuardRecords.{guard_record}
 use Rattle.records.specs.Records.{record_as}
 use Rattle.records.specs.declared.guards.GuardRecord.{GuardRecord}

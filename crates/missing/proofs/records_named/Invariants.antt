@@ -1,15 +1,11 @@
 -- `records_named` meets its contract. The loop's invariant: the bits of the first i records have names.
 -- Assumes nothing.
 use Prim.Native.Nat.{◌+◌, ◌-◌, ◌≤◌}
-use mathlib.Core.Path.{◌≡◌, sym}
+use mathlib.Core.Path.{◌≡◌}
 use mathlib.Core.Bool.{true}
-use borrow.Author.Rules.{rules}
 use Rattle.model.specs.Words.{each}
-use Rattle.model.proofs.Words.{each_none, each_so_far, each_all, each_broken, passed, not_passed}
 use Rattle.records.specs.GuardRecords.{guard_record}
-use Rattle.missing.specs.Tallies.{record_named, records_named}
-use mathlib.Core.Path.{ap}
-use mathlib.Core.Bool.{not}
+use Rattle.missing.specs.Tallies.{record_named}
 use Rattle.missing.proofs.records_named.Given as goal
 
 abbrev pub invariant-loop-i : goal.invariant-loop-i

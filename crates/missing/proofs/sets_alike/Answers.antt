@@ -1,8 +1,6 @@
 -- `sets_alike` meets its contract. The loop's invariant, `Alike`: the first i sets are the same, and the others decide.
 -- Assumes nothing.
-use Prim.Native.Nat.{◌-◌}
-use borrow.Author.Rules.{rules}
-use Rattle.missing.proofs.SetLaws.{Alike, sets_more, sets_start, sets_over, sets_on, sets_differ}
+use Rattle.missing.proofs.SetLaws.{sets_more, sets_start, sets_over, sets_on, sets_differ}
 use Rattle.missing.proofs.sets_alike.Goals as goal
 
 pub returns-then-n-sets : goal.returns-then-n-sets

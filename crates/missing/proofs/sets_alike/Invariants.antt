@@ -1,8 +1,7 @@
 -- `sets_alike` meets its contract. The loop's invariant, `Alike`: the first i sets are the same, and the others decide.
 -- Assumes nothing.
 use Prim.Native.Nat.{◌-◌}
-use borrow.Author.Rules.{rules}
-use Rattle.missing.proofs.SetLaws.{Alike, sets_more, sets_start, sets_over, sets_on, sets_differ}
+use Rattle.missing.proofs.SetLaws.{Alike}
 use Rattle.missing.proofs.sets_alike.Given as goal
 
 abbrev pub invariant-loop-i : goal.invariant-loop-i

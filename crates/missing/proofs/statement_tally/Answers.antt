@@ -1,10 +1,7 @@
 -- `statement_tally` meets its contract, by what the record is.
 -- Assumes nothing.
 use native.Mathlib.Omega.{arith}
-use mathlib.Core.Path.{◌≡◌, sym, ◌∙◌}
-use borrow.Author.Rules.{rules}
-use Rattle.bodies.specs.declared.statements.StatementRecord.{StatementRecord}
-use Rattle.missing.specs.Tallies.{front_tally, statement_tally}
+use mathlib.Core.Path.{sym, ◌∙◌}
 use Rattle.missing.proofs.PartTallies.{front_told}
 use Rattle.missing.proofs.statement_tally.Goals as goal
 

@@ -1,13 +1,9 @@
 -- `statements_tally` meets its contract. The loop's invariant, `Summed`: the first i records are tallied.
 -- Assumes nothing.
 use Prim.Native.Nat.{◌-◌}
-use native.Mathlib.Omega.{arith}
-use mathlib.Core.Path.{◌∙◌, ap}
-use borrow.Author.Rules.{rules}
 use Rattle.records.specs.Bytes.{record_at}
-use Rattle.missing.specs.Tallies.{statement_tally, statements_tally}
-use Rattle.missing.proofs.PartTallies.{record_long}
-use Rattle.missing.proofs.TallyLaws.{Summed, summed_none, summed_on, summed_all}
+use Rattle.missing.specs.Tallies.{statement_tally}
+use Rattle.missing.proofs.TallyLaws.{Summed}
 use Rattle.missing.proofs.statements_tally.Given as goal
 
 abbrev pub invariant-loop-i : goal.invariant-loop-i

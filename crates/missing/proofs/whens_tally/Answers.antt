@@ -1,11 +1,9 @@
 -- `whens_tally` meets its contract. The loop's invariant, `Summed`: the guards of the first w clauses are tallied.
 -- Assumes nothing.
-use Prim.Native.Nat.{◌-◌}
 use native.Mathlib.Omega.{arith}
 use mathlib.Core.Path.{◌∙◌, ap}
-use borrow.Author.Rules.{rules}
-use Rattle.missing.specs.Tallies.{place_tally, when_tally, whens_tally}
-use Rattle.missing.proofs.TallyLaws.{Summed, summed_none, summed_on, summed_all}
+use Rattle.missing.specs.Tallies.{place_tally, whens_tally}
+use Rattle.missing.proofs.TallyLaws.{summed_none, summed_on, summed_all}
 use Rattle.missing.proofs.whens_tally.Goals as goal
 
 pub loop-w-init : goal.loop-w-init

@@ -1,11 +1,8 @@
 -- `whens_tally` meets its contract. The loop's invariant, `Summed`: the guards of the first w clauses are tallied.
 -- Assumes nothing.
 use Prim.Native.Nat.{◌-◌}
-use native.Mathlib.Omega.{arith}
-use mathlib.Core.Path.{◌∙◌, ap}
-use borrow.Author.Rules.{rules}
-use Rattle.missing.specs.Tallies.{place_tally, when_tally, whens_tally}
-use Rattle.missing.proofs.TallyLaws.{Summed, summed_none, summed_on, summed_all}
+use Rattle.missing.specs.Tallies.{when_tally}
+use Rattle.missing.proofs.TallyLaws.{Summed}
 use Rattle.missing.proofs.whens_tally.Given as goal
 
 abbrev pub invariant-loop-w : goal.invariant-loop-w
