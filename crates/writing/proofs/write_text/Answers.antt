@@ -1,7 +1,6 @@
 -- 17, 19, or the text and its room.
 -- Assumes nothing.
 use Rattle.writing.proofs.WritingLaws.{unnamed, too_many, text_asked}
-use borrow.Author.Rules.{rules}
 use mathlib.Core.Path.{ap}
 use mathlib.Core.Bool.{not}
 use Rattle.writing.proofs.write_text.Goals as goal

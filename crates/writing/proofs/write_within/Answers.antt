@@ -3,7 +3,6 @@
 use native.Mathlib.Omega.{arith}
 use mathlib.Core.Path.{refl}
 use Rattle.writing.proofs.WritingLaws.{no_room, with_room}
-use borrow.Author.Rules.{rules}
 use Rattle.writing.proofs.write_within.Goals as goal
 
 pub returns-then-out-needed : goal.returns-then-out-needed
