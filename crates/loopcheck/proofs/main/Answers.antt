@@ -1,7 +1,6 @@
 -- What was read is rendered; the line lies within its buffer.
 -- Assumes nothing.
 use Rattle.loopcheck.proofs.Printing.{printed_fits}
-use borrow.Author.Rules.{rules}
 use Rattle.loopcheck.proofs.main.Goals as goal
 
 pub slice_bounds-out-end : goal.slice_bounds-out-end

@@ -2,7 +2,6 @@
 -- Assumes nothing.
 use native.Mathlib.Omega.{arith}
 use Rattle.loopcheck.proofs.Asking.{low_bits}
-use borrow.Author.Rules.{rules}
 use Rattle.loopcheck.proofs.line.all_classes.Goals as goal
 
 pub overflow_sub-result : goal.overflow_sub-result

@@ -1,8 +1,6 @@
 -- The judge refuses, or the question is asked with a bit for each of the K classes.
 -- Assumes nothing.
 -- the judge accepted
-use borrow.Author.Rules.{rules}
-use Rattle.sheet.specs.Verdict.{Stands}
 use Rattle.sheet.proofs.AskedLaws.{stands}
 use Rattle.loopcheck.proofs.Asking.{refused_told, all_asked}
 use Rattle.loopcheck.proofs.line.ask.Goals as goal

@@ -2,7 +2,6 @@
 -- Assumes nothing.
 use native.Mathlib.Omega.{arith}
 use lib.Count.{ones-le}
-use borrow.Author.Rules.{rules}
 use Rattle.loopcheck.proofs.line.children_in.Goals as goal
 
 pub overflow_cast-result : goal.overflow_cast-result

@@ -4,7 +4,6 @@ use Prim.Native.Nat.{◌≤◌}
 use native.Mathlib.Omega.{arith}
 use mathlib.Core.Path.{sym}
 use lib.Seq.{length-take-le}
-use borrow.Author.Rules.{rules}
 use Rattle.loopcheck.proofs.Printing.{few, printed}
 use Rattle.loopcheck.proofs.line.render.Goals as goal
 
