@@ -4,7 +4,6 @@ use mathlib.Core.Path.{refl}
 use Rattle.sheet.proofs.AskedLaws.{stands, refused_too}
 use Rattle.bargewicker.specs.Questions.{command_in, placed, reply}
 use Rattle.bargewicker.proofs.PromiseLaws.{refused_so}
-use borrow.Author.Rules.{rules}
 use Rattle.bargewicker.proofs.command.Goals as goal
 
 pub command_in-requires : goal.command_in-requires

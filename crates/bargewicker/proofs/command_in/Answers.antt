@@ -4,14 +4,10 @@
 use native.Mathlib.Omega.{arith}
 use mathlib.Core.Path.{◌≡◌, refl}
 use lib.ListN.{length}
-use Rattle.model.specs.Tree.{Class}
-use Rattle.sheet.specs.Reading.{class_of}
-use Rattle.model.specs.Replies.{Reply}
 use Rattle.children.proofs.ListLaws.{list_short}
-use Rattle.bargewicker.specs.Questions.{Answer, command_in, placed, reply}
+use Rattle.bargewicker.specs.Questions.{command_in, reply}
 use Rattle.bargewicker.proofs.PlacingLaws.{not_fitting, fitting, right_list, asked_low, crew}
 use Rattle.bargewicker.proofs.PromiseLaws.{refused_so, over_so, commanded_so}
-use borrow.Author.Rules.{rules}
 use Rattle.bargewicker.proofs.command_in.Goals as goal
 
 pub returns-in-Refused : goal.returns-in-Refused

@@ -4,7 +4,6 @@ use mathlib.Core.Path.{refl}
 use Rattle.sheet.proofs.AskedLaws.{stands, refused_too}
 use Rattle.bargewicker.specs.Questions.{judge, reply}
 use Rattle.bargewicker.proofs.PromiseLaws.{refused_so, accepted_so}
-use borrow.Author.Rules.{rules}
 use Rattle.bargewicker.proofs.judge.Goals as goal
 
 pub returns-in-Accepted : goal.returns-in-Accepted

@@ -4,7 +4,6 @@ use mathlib.Core.Path.{refl}
 use Rattle.sheet.proofs.AskedLaws.{stands, refused_too}
 use Rattle.bargewicker.specs.Questions.{loop_with, reply}
 use Rattle.bargewicker.proofs.PromiseLaws.{refused_so, looped_so}
-use borrow.Author.Rules.{rules}
 use Rattle.bargewicker.proofs.loop_question.Goals as goal
 
 pub loop_with-requires : goal.loop_with-requires

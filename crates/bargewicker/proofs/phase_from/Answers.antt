@@ -7,7 +7,6 @@ use Rattle.children.proofs.ListLaws.{list_short}
 use Rattle.bargewicker.specs.Questions.{phase_from, reply}
 use Rattle.bargewicker.proofs.PlacingLaws.{not_fitting, fitting, right_list, asked_low, crew}
 use Rattle.bargewicker.proofs.PromiseLaws.{refused_so, phased_so}
-use borrow.Author.Rules.{rules}
 use Rattle.bargewicker.proofs.phase_from.Goals as goal
 
 pub returns-in-Refused : goal.returns-in-Refused

@@ -1,7 +1,6 @@
 -- `place`: the checks of the child list and of the asked state are the paper's 10 and 11.
 -- Assumes nothing.
 use Rattle.bargewicker.proofs.PlacingLaws.{classes_short, place_10, place_11, place_0}
-use borrow.Author.Rules.{rules}
 use mathlib.Core.Path.{ap}
 use mathlib.Core.Bool.{not}
 use Rattle.bargewicker.proofs.place.Goals as goal

@@ -7,7 +7,6 @@ use lib.ListN.{length}
 use Rattle.bargewicker.specs.Questions.{probe_in, reply}
 use Rattle.bargewicker.proofs.PlacingLaws.{not_fitting, fitting, crew}
 use Rattle.bargewicker.proofs.PromiseLaws.{refused_so, probed_so}
-use borrow.Author.Rules.{rules}
 use Rattle.bargewicker.proofs.probe_in.Goals as goal
 
 pub returns-in-Refused : goal.returns-in-Refused

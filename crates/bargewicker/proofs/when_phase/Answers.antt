@@ -4,7 +4,6 @@ use mathlib.Core.Path.{refl}
 use Rattle.sheet.proofs.AskedLaws.{stands, refused_too}
 use Rattle.bargewicker.specs.Questions.{phase_from, placed, reply}
 use Rattle.bargewicker.proofs.PromiseLaws.{refused_so}
-use borrow.Author.Rules.{rules}
 use Rattle.bargewicker.proofs.when_phase.Goals as goal
 
 pub phase_from-requires : goal.phase_from-requires

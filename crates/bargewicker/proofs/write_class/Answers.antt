@@ -5,7 +5,6 @@ use Rattle.sheet.proofs.AskedLaws.{stands, refused_too}
 use Rattle.writings.specs.Writings.{named}
 use Rattle.bargewicker.specs.Questions.{text_of, reply}
 use Rattle.bargewicker.proofs.PromiseLaws.{refused_so, wrote_so}
-use borrow.Author.Rules.{rules}
 use Rattle.bargewicker.proofs.write_class.Goals as goal
 
 pub write_text-requires : goal.write_text-requires
