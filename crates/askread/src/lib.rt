@@ -1,6 +1,7 @@
 // The question `read TEXT NAMES COMMANDS CLASSES SHEET TABLE`, behind TEXT: its strings are read one by one, the question is put, and the
 // answer's line is written. Nothing is asked of a caller beforehand. What the lines are is in specs/AskRead.antt.
 #![tactic(auto)]
+
 ghost use Rattle.readings.specs.Promise.{asked};
 ghost use Rattle.texts.specs.Texts.{Appended};
 ghost use Rattle.askread.specs.AskRead.{line_of_text, table_answer, buffer_answer, classes_answer, commands_answer, text_answer};

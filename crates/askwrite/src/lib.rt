@@ -1,6 +1,7 @@
 // The question `write SHEET OWNNAME OWNSTATES NAMES COMMANDS CLASSES BUFFER`, behind SHEET: its strings are read one by one, the question is
 // put, and the answer's line is written. Nothing is asked of a caller beforehand. What the lines are is in specs/AskWrite.antt.
 #![tactic(auto)]
+
 ghost use Rattle.texts.specs.Texts.{Appended};
 ghost use Rattle.writings.specs.Writings.{named};
 ghost use Rattle.askwrite.specs.AskWrite.{line_of_written, buffer_answer, classes_answer, commands_answer, names_answer, own_states_answer, own_name_answer};

@@ -34,7 +34,7 @@ use Rattle.bw.specs.PackedReading.{packed_reading, ReturnedReading, OneWordAndBu
 
 -- the largest number of a refusal is 19
 small : (x : Refusal) → number_of x ≤ 19
-small x = elim x [ SheetLength ↦ omega arith | Contents ↦ omega arith | EmptyNameSet ↦ omega arith | ClauseCounts ↦ omega arith | GuardLayout ↦ omega arith | GuardReach ↦ omega arith | Target ↦ omega arith | ActionClause ↦ omega arith | Statement ↦ omega arith | ChildList ↦ omega arith | AskedState ↦ omega arith | AskedCommand ↦ omega arith | PresentBit ↦ omega arith | NameCount ↦ omega arith | Room ↦ omega arith | Naming ↦ omega arith | Limit ↦ omega arith | WrittenGuards ↦ omega arith ]
+small x = elim x as (λ x. number_of x ≤ 19) [ SheetLength ↦ omega arith | Contents ↦ omega arith | EmptyNameSet ↦ omega arith | ClauseCounts ↦ omega arith | GuardLayout ↦ omega arith | GuardReach ↦ omega arith | Target ↦ omega arith | ActionClause ↦ omega arith | Statement ↦ omega arith | ChildList ↦ omega arith | AskedState ↦ omega arith | AskedCommand ↦ omega arith | PresentBit ↦ omega arith | NameCount ↦ omega arith | Room ↦ omega arith | Naming ↦ omega arith | Limit ↦ omega arith | WrittenGuards ↦ omega arith ]
 
 -- a refusal is its own word, whatever was asked
 pub word_refused : (ks : Kinds) (x : Refusal) (r : ℕ) → r ≡ number_of x → (ns : List ℕ) → ns ≡ number_of x ∷ [] → r ≡ word ks ns

@@ -2,6 +2,7 @@
 // pointer and a length to C, an array of fixed length a pointer; nothing more is asked of the caller, and a refusal writes nothing. What a
 // word holds is in specs/Packed.antt, of a class text that is read in specs/PackedReading.antt, and for C in include/bargewicker.h.
 #![tactic(auto)]
+
 ghost use Rattle.std.specs.Prelude.{◌≡◌, [], ◌∷◌};
 ghost use Rattle.model.specs.Values.{probed_values, settled_values};
 ghost use Rattle.model.specs.Answers.{probed_as, ending_as, phased_values, handled_values, looped_values, judge_numbers, probe_numbers, phase_numbers, command_numbers, loop_numbers, write_numbers};

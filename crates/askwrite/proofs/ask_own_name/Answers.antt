@@ -1,0 +1,16 @@
+-- The string, and what is behind it.
+-- Assumes nothing.
+use Rattle.askwrite.specs.AskWrite.{own_name_answer}
+use Rattle.strings.proofs.StringLaws.{string_wrong, string_read}
+use borrow.Author.Rules.{rules}
+use mathlib.Core.Path.{ap}
+use mathlib.Core.Bool.{not}
+use Rattle.askwrite.proofs.ask_own_name.Goals as goal
+
+pub returns-then-not-d : goal.returns-then-not-d
+unfolding own_name_answer
+returns-then-not-d c = string_wrong _ _ _ _ _ _ _ _ _ c.first_field.ensures c.decode-d.ensures.decoded c.blank-own_name.ensures c.if-not-d.true c.bad_line.ensures
+
+pub returns : goal.returns
+unfolding own_name_answer
+returns c = string_read _ _ _ _ _ _ _ _ _ c.first_field.ensures c.decode-d.ensures.decoded c.blank-own_name.ensures c.decode-d.ensures.within.0 c.if-not-d.false _ c.other_fields.ensures c.ask_own_states.ensures

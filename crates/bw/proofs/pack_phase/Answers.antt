@@ -1,0 +1,13 @@
+-- `pack_phase`: a refusal is its own word, and what is given has its word.
+-- Assumes nothing.
+use mathlib.Core.Path.{ap}
+use Rattle.model.specs.Answers.{phase_numbers}
+use Rattle.bw.proofs.PackedLaws.{word_refused, word_given}
+use borrow.Author.Rules.{rules}
+use Rattle.bw.proofs.pack_phase.Goals as goal
+
+pub returns-in-Refused : goal.returns-in-Refused
+returns-in-Refused c = word_refused _ c.in-Refused.x _ c.refusal_number.ensures _ (ap phase_numbers c.in-Refused.is)
+
+pub returns-in-Given : goal.returns-in-Given
+returns-in-Given c = word_given _ _ _ _ c.pack_phased.ensures (ap phase_numbers c.in-Given.is)
