@@ -1,11 +1,10 @@
 -- Packing loses nothing of an answer to a class text: each number fits its field and is read back.
 -- Assumes nothing.
-use Prim.Native.Nat.{ℕ, ◌+◌, ◌*◌, ◌<◌, ◌≤◌, ◌^◌}
+use Prim.Native.Nat.{ℕ, ◌+◌, ◌*◌, ◌<◌, ◌^◌}
 use native.Mathlib.Omega.{arith}
 use mathlib.Core.Path.{◌≡◌, refl, sym, ◌∙◌, ap}
 use mathlib.Core.List.{[], ◌∷◌}
 use mathlib.Core.Logic.{◌⊎◌, inl, inr}
-use lib.ListN.{length}
 use borrow.Author.Tests.{ne_eqb}
 use Rattle.readings.specs.Readings as Readings
 use Rattle.readings.specs.Readings.{Lent, Reading, Outcome, Answers, reading_numbers}

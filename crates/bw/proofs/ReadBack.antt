@@ -2,12 +2,11 @@
 -- Assumes nothing.
 use Prim.Native.Nat.{ℕ, ◌+◌, ◌*◌, ◌/◌, ◌%◌, ◌^◌, ◌<◌, ◌≤◌}
 use native.Mathlib.Omega.{arith}
-use mathlib.Core.Path.{◌≡◌, refl, sym, ◌∙◌, ap}
+use mathlib.Core.Path.{◌≡◌, refl, ◌∙◌, ap}
 use mathlib.Core.Bool.{Bool, true, false}
 use mathlib.Core.List.{List, [], ◌∷◌, ◌++◌, map, append-nil, head-eq_of_cons-eq}
 use lib.Arith.{digits_div, digits_mod}
 use lib.Dec.{eqb}
-use lib.ListN.{drop}
 use borrow.Author.Tests.{ne_eqb, eqb-true}
 use Rattle.model.specs.Words.{choose}
 use Rattle.bw.specs.Packed.{Field, refused, kind, clause, referrer, target, state, moves, to_do, phase_written, command_written, configuration, text_written, Kinds, behind, side_by_side, fields, word, read, unpacked, unpacked_both, way, kinds_of_judge, kinds_of_probe, kinds_of_phase, kinds_of_command, kinds_of_loop, kinds_of_text}

@@ -1,7 +1,6 @@
 -- `bw_command` gives both words of the answer, and its buffer.
 -- Assumes nothing.
 use Rattle.bw.proofs.PackedLaws.{returned_both}
-use borrow.Author.Rules.{rules}
 use Rattle.bw.proofs.bw_command.Goals as goal
 
 pub returns : goal.returns

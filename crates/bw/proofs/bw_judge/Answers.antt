@@ -1,7 +1,6 @@
 -- `bw_judge` gives the word of the answer.
 -- Assumes nothing.
 use Rattle.bw.proofs.PackedLaws.{returned}
-use borrow.Author.Rules.{rules}
 use Rattle.bw.proofs.bw_judge.Goals as goal
 
 pub returns : goal.returns

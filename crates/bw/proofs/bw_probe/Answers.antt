@@ -1,7 +1,6 @@
 -- `bw_probe` gives the word of the answer.
 -- Assumes nothing.
 use Rattle.bw.proofs.PackedLaws.{returned}
-use borrow.Author.Rules.{rules}
 use Rattle.bw.proofs.bw_probe.Goals as goal
 
 pub returns : goal.returns

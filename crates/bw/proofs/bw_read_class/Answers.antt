@@ -1,7 +1,6 @@
 -- `bw_read_class` gives the word of the answer, and both buffers.
 -- Assumes nothing.
 use Rattle.bw.proofs.PackedLaws.{returned_reading}
-use borrow.Author.Rules.{rules}
 use Rattle.bw.proofs.bw_read_class.Goals as goal
 
 pub returns : goal.returns

@@ -1,7 +1,6 @@
 -- `bw_when_phase` gives the word of the answer, and its buffer.
 -- Assumes nothing.
 use Rattle.bw.proofs.PackedLaws.{returned}
-use borrow.Author.Rules.{rules}
 use Rattle.bw.proofs.bw_when_phase.Goals as goal
 
 pub returns : goal.returns

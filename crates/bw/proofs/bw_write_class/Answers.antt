@@ -1,7 +1,6 @@
 -- `bw_write_class` gives the word of the answer, and its buffer.
 -- Assumes nothing.
 use Rattle.bw.proofs.PackedLaws.{returned}
-use borrow.Author.Rules.{rules}
 use Rattle.bw.proofs.bw_write_class.Goals as goal
 
 pub returns : goal.returns

@@ -2,7 +2,6 @@
 -- Assumes nothing.
 use native.Mathlib.Omega.{arith}
 use Rattle.bw.proofs.PackedLaws.{word_move, word_do, word_stay}
-use borrow.Author.Rules.{rules}
 use Rattle.bw.proofs.pack_clause.Goals as goal
 
 pub returns-in-MoveTo : goal.returns-in-MoveTo

@@ -3,7 +3,6 @@
 use mathlib.Core.Path.{ap}
 use Rattle.model.specs.Answers.{command_numbers}
 use Rattle.bw.proofs.PackedLaws.{both_refused, both_given}
-use borrow.Author.Rules.{rules}
 use Rattle.bw.proofs.pack_command.Goals as goal
 
 pub returns-in-Refused : goal.returns-in-Refused

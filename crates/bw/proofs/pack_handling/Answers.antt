@@ -4,7 +4,6 @@ use native.Mathlib.Omega.{arith}
 use mathlib.Core.Path.{ap}
 use Rattle.model.specs.Answers.{handled_values}
 use Rattle.bw.proofs.PackedLaws.{word_ignored, word_handled}
-use borrow.Author.Rules.{rules}
 use Rattle.bw.proofs.pack_handling.Goals as goal
 
 pub returns-in-Ignored : goal.returns-in-Ignored

@@ -4,7 +4,6 @@ use native.Mathlib.Omega.{arith}
 use mathlib.Core.Path.{ap}
 use Rattle.model.specs.Answers.{looped_values}
 use Rattle.bw.proofs.PackedLaws.{word_loop, word_free}
-use borrow.Author.Rules.{rules}
 use Rattle.bw.proofs.pack_loops.Goals as goal
 
 pub returns-in-Loop : goal.returns-in-Loop

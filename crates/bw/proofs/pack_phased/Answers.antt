@@ -6,7 +6,6 @@ use mathlib.Core.List.{◌∷◌}
 use Rattle.model.specs.Answers.{phased_values}
 use Rattle.model.specs.declared.Phase.{Phase}
 use Rattle.bw.proofs.PackedLaws.{word_given, word_loops}
-use borrow.Author.Rules.{rules}
 use Rattle.bw.proofs.pack_phased.Goals as goal
 
 pub returns-in-Settled : goal.returns-in-Settled

@@ -3,7 +3,6 @@
 use mathlib.Core.Path.{ap}
 use Rattle.model.specs.Answers.{probe_numbers}
 use Rattle.bw.proofs.PackedLaws.{word_refused, word_given}
-use borrow.Author.Rules.{rules}
 use Rattle.bw.proofs.pack_probe.Goals as goal
 
 pub returns-in-Refused : goal.returns-in-Refused

@@ -6,7 +6,6 @@ use Rattle.model.specs.Values.{probed_values}
 use Rattle.model.specs.Answers.{probed_as}
 use Rattle.model.specs.declared.Probed.{Probed}
 use Rattle.bw.proofs.PackedLaws.{word_nothing, word_given}
-use borrow.Author.Rules.{rules}
 use Rattle.bw.proofs.pack_probed.Goals as goal
 
 pub returns-in-Nothing : goal.returns-in-Nothing

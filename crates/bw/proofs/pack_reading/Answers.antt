@@ -1,7 +1,6 @@
 -- `pack_reading`: a refusal is its own word, 16 has its place behind it, and what was read has its word.
 -- Assumes nothing.
 use Rattle.bw.proofs.PackedLaws.{word_unread, word_wrong, word_read}
-use borrow.Author.Rules.{rules}
 use Rattle.bw.proofs.pack_reading.Goals as goal
 
 pub returns-in-Refused : goal.returns-in-Refused

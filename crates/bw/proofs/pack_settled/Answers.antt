@@ -2,7 +2,6 @@
 -- Assumes nothing.
 use native.Mathlib.Omega.{arith}
 use Rattle.bw.proofs.PackedLaws.{word_by_none, word_by_stay, word_by_do}
-use borrow.Author.Rules.{rules}
 use Rattle.bw.proofs.pack_settled.Goals as goal
 
 pub returns-in-ByNone : goal.returns-in-ByNone

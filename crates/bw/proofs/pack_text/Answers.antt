@@ -3,7 +3,6 @@
 use mathlib.Core.Path.{ap}
 use Rattle.model.specs.Answers.{write_numbers}
 use Rattle.bw.proofs.PackedLaws.{word_refused, word_written}
-use borrow.Author.Rules.{rules}
 use Rattle.bw.proofs.pack_text.Goals as goal
 
 pub returns-in-Refused : goal.returns-in-Refused
