@@ -1,7 +1,6 @@
 -- The line has the answer's numbers and both buffers after the call.
 -- Assumes nothing.
 use Rattle.askread.proofs.ReadLaws.{text_put}
-use borrow.Author.Rules.{rules}
 use Rattle.askread.proofs.put_text.Goals as goal
 
 pub returns : goal.returns
