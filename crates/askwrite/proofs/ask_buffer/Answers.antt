@@ -3,9 +3,6 @@
 use mathlib.Core.Path.{refl}
 use Rattle.askwrite.specs.AskWrite.{buffer_answer}
 use Rattle.strings.proofs.StringLaws.{string_wrong, string_read}
-use borrow.Author.Rules.{rules}
-use mathlib.Core.Path.{ap}
-use mathlib.Core.Bool.{not}
 use Rattle.askwrite.proofs.ask_buffer.Goals as goal
 
 pub returns-then-not-d : goal.returns-then-not-d

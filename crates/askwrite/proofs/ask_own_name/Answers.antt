@@ -2,9 +2,6 @@
 -- Assumes nothing.
 use Rattle.askwrite.specs.AskWrite.{own_name_answer}
 use Rattle.strings.proofs.StringLaws.{string_wrong, string_read}
-use borrow.Author.Rules.{rules}
-use mathlib.Core.Path.{ap}
-use mathlib.Core.Bool.{not}
 use Rattle.askwrite.proofs.ask_own_name.Goals as goal
 
 pub returns-then-not-d : goal.returns-then-not-d

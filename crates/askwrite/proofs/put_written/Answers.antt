@@ -1,7 +1,6 @@
 -- The line has the answer's numbers and the buffer after the call.
 -- Assumes nothing.
 use Rattle.askwrite.proofs.WriteLaws.{written_put}
-use borrow.Author.Rules.{rules}
 use Rattle.askwrite.proofs.put_written.Goals as goal
 
 pub returns : goal.returns
