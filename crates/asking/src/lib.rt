@@ -1,6 +1,7 @@
 // From a line to its answer: the verb and its fields are read, the question is put, and the answer's line is written. Nothing is asked of
 // a caller beforehand. What the lines are is in specs/Asking.antt.
 #![tactic(auto)]
+
 ghost use Rattle.std.specs.Prelude.{◌≡◌};
 ghost use Rattle.bargewicker.specs.Questions.{judge, phase_from, command_in, loop_with};
 ghost use Rattle.texts.specs.Texts.{Appended};

@@ -7,6 +7,7 @@
 // Byte strings are lower-case hex, `-` for the empty one; numbers are decimal, 0 to 255; fields are parted by one space. A line that is
 // none of these, or longer than 1,048,576 bytes, is answered `bad line`. A line is answered by `asking`.
 #![tactic(auto)]
+
 ghost use Rattle.io.specs.Counts.{IsPrefixLen};
 ghost use Rattle.questions.specs.Inputs.{Inside};
 

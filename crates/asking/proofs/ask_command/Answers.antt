@@ -1,0 +1,14 @@
+-- The number, and what is behind it.
+-- Assumes nothing.
+use Rattle.asking.specs.Asking.{command_answer}
+use Rattle.asking.proofs.AskingLaws.{number_wrong, number_read}
+use borrow.Author.Rules.{rules}
+use Rattle.asking.proofs.ask_command.Goals as goal
+
+pub returns-in_default : goal.returns-in_default
+unfolding command_answer
+returns-in_default c = number_wrong _ _ _ _ _ _ _ c.first_field.ensures c.read_number-asked.ensures c.in_default.is c.bad_line.ensures
+
+pub returns : goal.returns
+unfolding command_answer
+returns c = number_read _ _ _ _ _ _ _ c.first_field.ensures c.read_number-asked.ensures _ c.in-Is.is _ c.other_fields.ensures c.ask_sending.ensures
