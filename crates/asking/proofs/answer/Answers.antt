@@ -1,7 +1,6 @@
 -- The length, the verb, and what is behind it.
 -- Assumes nothing.
 use Rattle.asking.proofs.AskingLaws.{too_long, line_asked}
-use borrow.Author.Rules.{rules}
 use Rattle.asking.proofs.answer.Goals as goal
 
 pub returns-then-line-gt1048576 : goal.returns-then-line-gt1048576

@@ -2,9 +2,6 @@
 -- Assumes nothing.
 use Rattle.asking.specs.Asking.{fields_answer}
 use Rattle.strings.proofs.StringLaws.{string_wrong, string_read}
-use borrow.Author.Rules.{rules}
-use mathlib.Core.Path.{ap}
-use mathlib.Core.Bool.{not}
 use Rattle.asking.proofs.ask_fields.Goals as goal
 
 pub returns-then-not-s : goal.returns-then-not-s

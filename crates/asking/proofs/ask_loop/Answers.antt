@@ -4,9 +4,6 @@ use mathlib.Core.Path.{refl}
 use Rattle.asking.specs.Asking.{loop_answer}
 use Rattle.strings.proofs.StringLaws.{string_wrong, string_read}
 use Rattle.asking.proofs.AskingLaws.{number_wrong, number_read}
-use borrow.Author.Rules.{rules}
-use mathlib.Core.Path.{ap}
-use mathlib.Core.Bool.{not}
 use Rattle.asking.proofs.ask_loop.Goals as goal
 
 pub returns-in_default : goal.returns-in_default

@@ -2,7 +2,6 @@
 -- Assumes nothing.
 use Rattle.asking.proofs.AskingLaws.{probe_put, same_placed}
 use Rattle.asking.specs.Asking.{placed_answer}
-use borrow.Author.Rules.{rules}
 use Rattle.asking.proofs.ask_placed.Goals as goal
 
 pub returns-in-Probe : goal.returns-in-Probe

@@ -3,9 +3,6 @@
 use mathlib.Core.Path.{refl}
 use Rattle.asking.specs.Asking.{sending_answer}
 use Rattle.strings.proofs.StringLaws.{string_wrong, string_read}
-use borrow.Author.Rules.{rules}
-use mathlib.Core.Path.{ap}
-use mathlib.Core.Bool.{not}
 use Rattle.asking.proofs.ask_sending.Goals as goal
 
 pub returns-then-not-b : goal.returns-then-not-b

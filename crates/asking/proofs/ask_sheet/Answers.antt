@@ -2,7 +2,6 @@
 -- Assumes nothing.
 use Rattle.asking.proofs.AskingLaws.{judge_put, same_verb}
 use Rattle.asking.specs.Asking.{sheet_answer}
-use borrow.Author.Rules.{rules}
 use Rattle.asking.proofs.ask_sheet.Goals as goal
 
 pub returns-in-Judge : goal.returns-in-Judge

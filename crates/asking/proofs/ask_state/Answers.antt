@@ -2,7 +2,6 @@
 -- Assumes nothing.
 use Rattle.asking.specs.Asking.{state_answer}
 use Rattle.asking.proofs.AskingLaws.{number_wrong, number_read}
-use borrow.Author.Rules.{rules}
 use Rattle.asking.proofs.ask_state.Goals as goal
 
 pub returns-in_default : goal.returns-in_default

@@ -1,7 +1,6 @@
 -- The two tests.
 -- Assumes nothing.
 use Rattle.asking.proofs.AskingLaws.{form_told}
-use borrow.Author.Rules.{rules}
 use Rattle.asking.proofs.is_form.Goals as goal
 
 pub returns : goal.returns

@@ -1,7 +1,6 @@
 -- The line has the answer's numbers and the buffer after the call.
 -- Assumes nothing.
 use Rattle.asking.proofs.AskingLaws.{command_put}
-use borrow.Author.Rules.{rules}
 use Rattle.asking.proofs.put_command.Goals as goal
 
 pub returns : goal.returns

@@ -1,7 +1,6 @@
 -- Either question is put.
 -- Assumes nothing.
 use Rattle.asking.proofs.AskingLaws.{same_sending}
-use borrow.Author.Rules.{rules}
 use Rattle.asking.proofs.put_sending.Goals as goal
 
 pub returns-in-Phase : goal.returns-in-Phase

@@ -2,7 +2,6 @@
 -- Assumes nothing.
 use mathlib.Core.Path.{sym, ◌∙◌}
 use Rattle.asking.proofs.AskingLaws.{verb_judge, verb_loop, verb_probe, verb_phase, verb_command, verb_read, verb_write, verb_other}
-use borrow.Author.Rules.{rules}
 use Rattle.asking.proofs.verb_of.Goals as goal
 
 pub returns-then-is_form : goal.returns-then-is_form
