@@ -11,7 +11,7 @@ use borrow.Author.Tests.{ne_eqb}
 use Rattle.model.specs.Tree.{Kind, any_in, any_not_in, all_in, all_not_in, Guard, atom, both, either, opposite, Statement, send, go_to, branch, Part, end, ◌then◌, State}
 use Rattle.records.specs.Bytes.{record_at}
 use Rattle.records.specs.GuardRecords.{record_right}
-use Rattle.encoding.specs.Records.{Eight, number, bytes8, eights}
+use Rattle.encoding.specs.Records.{Eight, bytes8, eights}
 use Rattle.encoding.specs.Encoding.{kind_number, pattern_number, guard_records, operator_record, part_guards, statement_guards, gathered, when_guards, action_guards, state_guards}
 use Rattle.encoding.specs.Numbers.{Every, GuardNumbers, PartNumbers, StatementNumbers}
 use Rattle.encoding.proofs.From.{From, next_one, again32, record_eights}

@@ -8,7 +8,7 @@ use mathlib.Core.Bool.{Bool, true, false, ◌&&◌}
 use mathlib.Core.List.{List, [], ◌∷◌, ◌++◌}
 use lib.Dec.{eqb, leb, eqb-suc-zero}
 use lib.ListN.{length, get_or}
-use borrow.Author.Tests.{eqb-true, eqb-false, eq-eqb, ltb-true}
+use borrow.Author.Tests.{eqb-false, eq-eqb, ltb-true}
 use Rattle.model.specs.Words.{choose, every, listed, has}
 use Rattle.model.proofs.Words.{clash, and_left, and_right, and_both}
 use Rattle.model.proofs.Bits.{has_half}
