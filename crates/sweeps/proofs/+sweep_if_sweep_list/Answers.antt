@@ -10,7 +10,7 @@ use Rattle.bodies.specs.StatementReaders.{behind_statement}
 use Rattle.bodies.specs.declared.statements.StatementRecord.{StatementRecord}
 use Rattle.bodies.specs.declared.statements.StatementRecord.TheVariants.{Do, If}
 use Rattle.bodies.proofs.ReaderLaws.{told, parts_fall}
-use Rattle.sweeps.proofs.SweepLaws.{sweep_if as swept-if, sweeping_start, sweeping_end, sweeping_sent, sweeping_on, swept_go, swept_nothing, rest_falls}
+use Rattle.sweeps.proofs.SweepLaws.{sweep_if as swept_if, sweeping_start, sweeping_end, sweeping_sent, sweeping_on, swept_go, swept_nothing, rest_falls}
 use Rattle.sweeps.proofs.+sweep_if_sweep_list.Goals as goal
 
 pub sweep_if-sweep_list-first-requires : goal.sweep_if-sweep_list-first-requires
@@ -23,7 +23,7 @@ sweep_if-sweep_list-second-requires t c =
 
 pub sweep_if-returns : goal.sweep_if-returns
 sweep_if-returns t c =
-    swept-if _ _ _ _ _ _ (sym c.requires.part_value) _ c.word_at-word.ensures _ c.then_part.ensures c.sweep_list-first.ensures _ c.else_part.ensures c.sweep_list-second.ensures
+    swept_if _ _ _ _ _ _ (sym c.requires.part_value) _ c.word_at-word.ensures _ c.then_part.ensures c.sweep_list-first.ensures _ c.else_part.ensures c.sweep_list-second.ensures
 
 pub sweep_list-loop-left-init : goal.sweep_list-loop-left-init
 sweep_list-loop-left-init t c = sweeping_start _ _ _ _ _

@@ -9,17 +9,17 @@ use Rattle.loopcheck.proofs.line.render.Goals as goal
 
 pub overflow_mul-list : goal.overflow_mul-list
 overflow_mul-list c =
-    let few-children : c.children_in-n.result ≤ 20 = rw c.children_in-n.ensures (few _ _ c.ask-answer.result c.ask-answer.ensures) in
+    let few_children : c.children_in-n.result ≤ 20 = rw c.children_in-n.ensures (few _ _ c.ask-answer.result c.ask-answer.ensures) in
     omega arith
 
 pub slice_bounds-list-end : goal.slice_bounds-list-end
 slice_bounds-list-end c =
-    let few-children : c.children_in-n.result ≤ 20 = rw c.children_in-n.ensures (few _ _ c.ask-answer.result c.ask-answer.ensures) in
+    let few_children : c.children_in-n.result ≤ 20 = rw c.children_in-n.ensures (few _ _ c.ask-answer.result c.ask-answer.ensures) in
     omega arith
 
 pub slice_bounds-loopcheck_line-end : goal.slice_bounds-loopcheck_line-end
 slice_bounds-loopcheck_line-end c =
-    let few-children : c.children_in-n.result ≤ 20 = rw c.children_in-n.ensures (few _ _ c.ask-answer.result c.ask-answer.ensures) in
+    let few_children : c.children_in-n.result ≤ 20 = rw c.children_in-n.ensures (few _ _ c.ask-answer.result c.ask-answer.ensures) in
     sym (length-take-le _ _ (omega arith))
 
 pub returns : goal.returns
