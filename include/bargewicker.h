@@ -2,7 +2,7 @@
  * Bargewicker for C: seven questions. Five are about class sheets, the binary form of a node class; one makes a sheet of a class text, the
  * form in which editors write it, and one writes the text of a sheet.
  *
- * Link with libbw.a, which 'rt lib' in crates/bw writes for x86-64 Linux to crates/bw/out/.
+ * Link with libbw.a, which scripts/staticlib writes for x86-64 Linux to target/staticlib/.
  *
  * Nothing is asked of a call but that each pointer points at as many bytes as the length behind it says, the one without a length at
  * one word, and that what is to be written overlaps nothing else that is lent. Any bytes and any numbers get an answer, and always the

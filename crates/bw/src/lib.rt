@@ -1,4 +1,4 @@
-// The face for C: each question as an exported function that returns one word; a command has a second one, which is lent. A slice is a
+// The face for C: each question as a function that returns one word; a command has a second one, which is lent. `bw_c` exports them. A slice is a
 // pointer and a length to C, an array of fixed length a pointer; nothing more is asked of the caller, and a refusal writes nothing. What a
 // word holds is in specs/Packed.antt, of a class text that is read in specs/PackedReading.antt, and for C in include/bargewicker.h.
 #![tactic(auto)]
@@ -45,24 +45,21 @@ const STATES: u64 = 0x10000;
 const LENGTH: u64 = 0x100000000;
 
 // Is this byte string a class sheet?
-#[unsafe(no_mangle)]
-pub extern "C" fn bw_judge(sheet: &[u8]) -> u64
+pub fn bw_judge(sheet: &[u8]) -> u64
     ensures { Returned (judge sheet.now) result [] }
 {
     pack_judge(bargewicker::judge(sheet))
 }
 
 // Which clause of the state is the first whose guard these children make true?
-#[unsafe(no_mangle)]
-pub extern "C" fn bw_probe(sheet: &[u8], children: &[u8], state: u8) -> u64
+pub fn bw_probe(sheet: &[u8], children: &[u8], state: u8) -> u64
     ensures { Returned (probe_in sheet.now children.now state) result [] }
 {
     pack_probe(bargewicker::probe(sheet, children, state))
 }
 
 // Where does the when phase from the state settle with these children, and what do its DOs send on the way, or does it loop?
-#[unsafe(no_mangle)]
-pub extern "C" fn bw_when_phase(sheet: &[u8], children: &[u8], state: u8, out: &mut [u8]) -> u64
+pub fn bw_when_phase(sheet: &[u8], children: &[u8], state: u8, out: &mut [u8]) -> u64
     ensures { Returned (phase_from sheet.now children.now state out.old) result out.new }
 {
     pack_phase(bargewicker::when_phase(sheet, children, state, out))
@@ -70,8 +67,7 @@ pub extern "C" fn bw_when_phase(sheet: &[u8], children: &[u8], state: u8, out: &
 
 // What does the command send to which children, and which state does it leave; and what does the when phase from that state come to? The
 // phase's word goes to the lent array.
-#[unsafe(no_mangle)]
-pub extern "C" fn bw_command(
+pub fn bw_command(
     sheet: &[u8],
     children: &[u8],
     state: u8,
@@ -88,16 +84,14 @@ pub extern "C" fn bw_command(
 }
 
 // Which states of children of the present classes can make the node loop, or how many moves does it make at most?
-#[unsafe(no_mangle)]
-pub extern "C" fn bw_loop(sheet: &[u8], present: u8, out: &mut [u8]) -> u64
+pub fn bw_loop(sheet: &[u8], present: u8, out: &mut [u8]) -> u64
     ensures { Returned (loop_with sheet.now present out.old) result out.new }
 {
     pack_loop(bargewicker::loop_question(sheet, present, out))
 }
 
 // Which class is this text? Its sheet and its table of own states go to the lent buffers.
-#[unsafe(no_mangle)]
-pub extern "C" fn bw_read_class(
+pub fn bw_read_class(
     text: &[u8],
     names: &[u8],
     commands: &[u8],
@@ -111,8 +105,7 @@ pub extern "C" fn bw_read_class(
 }
 
 // What is the text of this sheet's class, with these names? It goes to the lent buffer.
-#[unsafe(no_mangle)]
-pub extern "C" fn bw_write_class(
+pub fn bw_write_class(
     sheet: &[u8],
     own_name: &[u8],
     own_states: &[u8],
