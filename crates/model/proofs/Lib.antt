@@ -3,6 +3,7 @@ pub mod Words
 pub mod Bits
 pub mod Masks
 pub mod Lists
+pub mod Runs
 pub mod Moves
 pub mod Occupancy
 pub mod NodeLaws
