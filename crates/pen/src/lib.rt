@@ -17,10 +17,7 @@ pub fn store(out: &mut [u8], at: usize, byte: u8)
 fn next_place(at: usize) -> usize
     ensures { result ≡ behind at 1 }
 {
-    if at < 18446744073709551615 {
-        return at + 1;
-    }
-    at
+    at.saturating_add(1)
 }
 
 // One byte, and the place behind it.
@@ -36,10 +33,8 @@ pub fn put_bytes(out: &mut [u8], at: usize, bytes: &[u8]) -> usize
     ensures { Puts bytes.now out.old at out.new result }
 {
     let mut end = at;
-    let mut i = 0;
-    while i < bytes.len() {
-        end = put_one(out, end, bytes[i]);
-        i = i + 1;
+    for byte in bytes {
+        end = put_one(out, end, *byte);
     }
     end
 }
@@ -48,16 +43,12 @@ pub fn put_bytes(out: &mut [u8], at: usize, bytes: &[u8]) -> usize
 pub fn put_two(out: &mut [u8], at: usize, n: usize) -> usize
     ensures { Puts (two n) out.old at out.new result }
 {
-    let a = put_one(out, at, (n % 256) as u8);
-    put_one(out, a, (n / 256 % 256) as u8)
+    put_bytes(out, at, &[(n % 256) as u8, (n / 256 % 256) as u8])
 }
 
 // Four bytes, and the place behind them.
 pub fn put_four(out: &mut [u8], at: usize, b0: u8, b1: u8, b2: u8, b3: u8) -> usize
     ensures { Puts (b0 ∷ b1 ∷ b2 ∷ b3 ∷ []) out.old at out.new result }
 {
-    let a = put_one(out, at, b0);
-    let b = put_one(out, a, b1);
-    let c = put_one(out, b, b2);
-    put_one(out, c, b3)
+    put_bytes(out, at, &[b0, b1, b2, b3])
 }
