@@ -4,15 +4,15 @@ use Prim.Native.Nat.{ℕ}
 use native.Mathlib.Omega.{arith}
 use mathlib.Core.Path.{◌≡◌, refl, sym, ap, ap₂}
 use mathlib.Core.List.{List, ◌++◌}
+use Rattle.std.specs.Prelude.{Ok, Err, Some, None}
+use Rattle.model.specs.declared.Misread.TheVariants.{Refused, WrongWord}
 use Rattle.model.specs.Tree as Tree
 use Rattle.model.specs.Node as Node
 use Rattle.model.specs.Values.{referrer_values, probed_values, settled_values, loop_values}
-use Rattle.model.specs.Answers.{referrer_as, probed_as, ending_as, phased_values, handled_values, looped_values, judge_numbers, probe_numbers, phase_numbers, command_numbers, loop_numbers, read_numbers, write_numbers}
+use Rattle.model.specs.Answers.{referrer_as, probed_as, ending_as, phased_values, handled_values, looped_values, judge_numbers, probe_numbers, phase_numbers, command_numbers, loop_numbers, read_numbers, write_numbers, Probed, JudgeAnswer, ProbeAnswer, PhaseAnswer, CommandAnswer, LoopAnswer, ReadAnswer, WriteAnswer}
 use Rattle.model.specs.declared.OwnState.{OwnState}
 use Rattle.model.specs.declared.Referrer.{Referrer}
 use Rattle.model.specs.declared.Referrer.TheVariants.{MoveTo, Do, Stay}
-use Rattle.model.specs.declared.Probed.{Probed}
-use Rattle.model.specs.declared.Probed.TheVariants.{Nothing, Found}
 use Rattle.model.specs.declared.Ending.{Ending}
 use Rattle.model.specs.declared.Ending.TheVariants.{ByNone, ByStay, ByDo}
 use Rattle.model.specs.declared.Phase.{Phase}
@@ -21,20 +21,6 @@ use Rattle.model.specs.declared.Handling.{Handling}
 use Rattle.model.specs.declared.Handling.TheVariants.{Ignored, Handled}
 use Rattle.model.specs.declared.Loops.{Loops}
 use Rattle.model.specs.declared.Loops.TheVariants.{Loop, Free}
-use Rattle.model.specs.declared.JudgeAnswer.{JudgeAnswer}
-use Rattle.model.specs.declared.JudgeAnswer.TheVariants as J
-use Rattle.model.specs.declared.ProbeAnswer.{ProbeAnswer}
-use Rattle.model.specs.declared.ProbeAnswer.TheVariants as P
-use Rattle.model.specs.declared.PhaseAnswer.{PhaseAnswer}
-use Rattle.model.specs.declared.PhaseAnswer.TheVariants as W
-use Rattle.model.specs.declared.CommandAnswer.{CommandAnswer}
-use Rattle.model.specs.declared.CommandAnswer.TheVariants as C
-use Rattle.model.specs.declared.LoopAnswer.{LoopAnswer}
-use Rattle.model.specs.declared.LoopAnswer.TheVariants as L
-use Rattle.model.specs.declared.ReadAnswer.{ReadAnswer}
-use Rattle.model.specs.declared.ReadAnswer.TheVariants as R
-use Rattle.model.specs.declared.WriteAnswer.{WriteAnswer}
-use Rattle.model.specs.declared.WriteAnswer.TheVariants as T
 use Rattle.model.proofs.Words.{clash}
 use Rattle.model.proofs.RefusalLaws.{same_number, not_zero, not_sixteen}
 
@@ -55,10 +41,10 @@ same_referrer Stay (Do b) e = absurd (clash (cc))
 same_referrer Stay Stay e = refl
 
 pub same_probed : (r s : Probed) → probed_as r ≡ probed_as s → r ≡ s
-same_probed Nothing Nothing e = refl
-same_probed Nothing (Found j s) e = absurd (clash (cc))
-same_probed (Found i r) Nothing e = absurd (clash (cc))
-same_probed (Found i r) (Found j s) e = ap₂ Found (cc) (same_referrer r s (cc))
+same_probed None None e = refl
+same_probed None (Some (j, s)) e = absurd (clash (cc))
+same_probed (Some (i, r)) None e = absurd (clash (cc))
+same_probed (Some (i, r)) (Some (j, s)) e = ap₂ (λ (k : ℕ) t. Some (k, t)) (cc) (same_referrer r s (cc))
 
 pub same_ending : (d e : Ending) → ending_as d ≡ ending_as e → d ≡ e
 same_ending ByNone ByNone h = refl
@@ -132,48 +118,48 @@ looped_told (Free m) (Free n) e = ap Free (cc)
 
 -- the paper's numbers tell answers apart
 pub same_judge : (r s : JudgeAnswer) → judge_numbers r ≡ judge_numbers s → r ≡ s
-same_judge (J.Refused x) (J.Refused y) e = ap J.Refused (same_number x y (cc))
-same_judge (J.Refused x) J.Accepted e = absurd (not_zero x (cc))
-same_judge J.Accepted (J.Refused y) e = absurd (not_zero y (cc))
-same_judge J.Accepted J.Accepted e = refl
+same_judge (Err x) (Err y) e = ap Err (same_number x y (cc))
+same_judge (Err x) (Ok v) e = absurd (not_zero x (cc))
+same_judge (Ok u) (Err y) e = absurd (not_zero y (cc))
+same_judge (Ok u) (Ok v) e = refl
 
 pub same_probe : (r s : ProbeAnswer) → probe_numbers r ≡ probe_numbers s → r ≡ s
-same_probe (P.Refused x) (P.Refused y) e = ap P.Refused (same_number x y (cc))
-same_probe (P.Refused x) (P.Given s) e = absurd (not_zero x (cc))
-same_probe (P.Given r) (P.Refused y) e = absurd (not_zero y (cc))
-same_probe (P.Given r) (P.Given s) e = ap P.Given (same_probed r s (probed_told (probed_as r) (probed_as s) (cc)))
+same_probe (Err x) (Err y) e = ap Err (same_number x y (cc))
+same_probe (Err x) (Ok s) e = absurd (not_zero x (cc))
+same_probe (Ok r) (Err y) e = absurd (not_zero y (cc))
+same_probe (Ok r) (Ok s) e = ap Ok (same_probed r s (probed_told (probed_as r) (probed_as s) (cc)))
 
 pub same_phase_answer : (r s : PhaseAnswer) → phase_numbers r ≡ phase_numbers s → r ≡ s
-same_phase_answer (W.Refused x) (W.Refused y) e = ap W.Refused (same_number x y (cc))
-same_phase_answer (W.Refused x) (W.Given s) e = absurd (not_zero x (cc))
-same_phase_answer (W.Given r) (W.Refused y) e = absurd (not_zero y (cc))
-same_phase_answer (W.Given r) (W.Given s) e = ap W.Given (same_phase r s (cc))
+same_phase_answer (Err x) (Err y) e = ap Err (same_number x y (cc))
+same_phase_answer (Err x) (Ok s) e = absurd (not_zero x (cc))
+same_phase_answer (Ok r) (Err y) e = absurd (not_zero y (cc))
+same_phase_answer (Ok r) (Ok s) e = ap Ok (same_phase r s (cc))
 
 pub same_command : (r s : CommandAnswer) → command_numbers r ≡ command_numbers s → r ≡ s
-same_command (C.Refused x) (C.Refused y) e = ap C.Refused (same_number x y (cc))
-same_command (C.Refused x) (C.Given k s) e = absurd (not_zero x (cc))
-same_command (C.Given h r) (C.Refused y) e = absurd (not_zero y (cc))
-same_command (C.Given h r) (C.Given k s) e = let (f, g) = handled_told h k (phased_values r) (phased_values s) (cc) in ap₂ C.Given f (same_phase r s g)
+same_command (Err x) (Err y) e = ap Err (same_number x y (cc))
+same_command (Err x) (Ok (k, s)) e = absurd (not_zero x (cc))
+same_command (Ok (h, r)) (Err y) e = absurd (not_zero y (cc))
+same_command (Ok (h, r)) (Ok (k, s)) e = let (f, g) = handled_told h k (phased_values r) (phased_values s) (cc) in ap₂ (λ (l : Handling) t. Ok (l, t)) f (same_phase r s g)
 
 pub same_loop : (r s : LoopAnswer) → loop_numbers r ≡ loop_numbers s → r ≡ s
-same_loop (L.Refused x) (L.Refused y) e = ap L.Refused (same_number x y (cc))
-same_loop (L.Refused x) (L.Given s) e = absurd (not_zero x (cc))
-same_loop (L.Given r) (L.Refused y) e = absurd (not_zero y (cc))
-same_loop (L.Given r) (L.Given s) e = ap L.Given (looped_told r s (cc))
+same_loop (Err x) (Err y) e = ap Err (same_number x y (cc))
+same_loop (Err x) (Ok s) e = absurd (not_zero x (cc))
+same_loop (Ok r) (Err y) e = absurd (not_zero y (cc))
+same_loop (Ok r) (Ok s) e = ap Ok (looped_told r s (cc))
 
 pub same_read : (r s : ReadAnswer) → read_numbers r ≡ read_numbers s → r ≡ s
-same_read (R.Refused x) (R.Refused y) e = ap R.Refused (same_number x y (cc))
-same_read (R.Refused x) (R.WrongWord q) e = absurd (not_sixteen x (cc))
-same_read (R.Refused x) (R.Read l n) e = absurd (not_zero x (cc))
-same_read (R.WrongWord p) (R.Refused y) e = absurd (not_sixteen y (cc))
-same_read (R.WrongWord p) (R.WrongWord q) e = ap R.WrongWord (cc)
-same_read (R.WrongWord p) (R.Read l n) e = absurd (clash (cc))
-same_read (R.Read k m) (R.Refused y) e = absurd (not_zero y (cc))
-same_read (R.Read k m) (R.WrongWord q) e = absurd (clash (cc))
-same_read (R.Read k m) (R.Read l n) e = let f : k ≡ l = cc in let g : m ≡ n = cc in λ i. R.Read (f i) (g i)
+same_read (Err (Refused x)) (Err (Refused y)) e = ap (λ x. Err (Refused x)) (same_number x y (cc))
+same_read (Err (Refused x)) (Err (WrongWord q)) e = absurd (not_sixteen x (cc))
+same_read (Err (Refused x)) (Ok (l, n)) e = absurd (not_zero x (cc))
+same_read (Err (WrongWord p)) (Err (Refused y)) e = absurd (not_sixteen y (cc))
+same_read (Err (WrongWord p)) (Err (WrongWord q)) e = ap (λ n. Err (WrongWord n)) (cc)
+same_read (Err (WrongWord p)) (Ok (l, n)) e = absurd (clash (cc))
+same_read (Ok (k, m)) (Err (Refused y)) e = absurd (not_zero y (cc))
+same_read (Ok (k, m)) (Err (WrongWord q)) e = absurd (clash (cc))
+same_read (Ok (k, m)) (Ok (l, n)) e = let f : k ≡ l = cc in let g : m ≡ n = cc in λ i. Ok (f i, g i)
 
 pub same_write : (r s : WriteAnswer) → write_numbers r ≡ write_numbers s → r ≡ s
-same_write (T.Refused x) (T.Refused y) e = ap T.Refused (same_number x y (cc))
-same_write (T.Refused x) (T.Written n) e = absurd (not_zero x (cc))
-same_write (T.Written m) (T.Refused y) e = absurd (not_zero y (cc))
-same_write (T.Written m) (T.Written n) e = ap T.Written (cc)
+same_write (Err x) (Err y) e = ap Err (same_number x y (cc))
+same_write (Err x) (Ok n) e = absurd (not_zero x (cc))
+same_write (Ok m) (Err y) e = absurd (not_zero y (cc))
+same_write (Ok m) (Ok n) e = ap Ok (cc)

@@ -1,9 +1,7 @@
 // The model: what a class, a child list, a probe, a when phase and a command mean. Definitions are in specs/, their theory in proofs/.
-// Here stand the three kinds of number that are never taken for one another, the refusals, and the answers to the questions.
+// Here stand the three kinds of number that are never taken for one another, the refusals, and what the answers to the questions give. An
+// answer is a Result: what is given, or why the input is refused.
 #![tactic(auto)]
-
-ghost use Rattle.std.specs.Prelude.{◌≡◌};
-ghost use Rattle.model.specs.Refusals.{number_of};
 
 // One of a node's own states, 0 to S - 1.
 #[derive(Clone, Copy)]
@@ -17,7 +15,7 @@ pub struct ChildName(pub u8);
 #[derive(Clone, Copy)]
 pub struct ChildClass(pub u8);
 
-// Why an input is refused: a case for each number of the paper's table, in its order. 16, which has a place, is a case of ReadAnswer.
+// Why an input is refused: a case for each number of the paper's table, in its order. 16, which has a place, is a case of Misread.
 #[derive(Clone, Copy)]
 pub enum Refusal {
     SheetLength,
@@ -49,11 +47,7 @@ pub enum Referrer {
 }
 
 // What a probe finds: no clause, or a clause's number within the state with its referrer and target.
-#[derive(Clone, Copy)]
-pub enum Probed {
-    Nothing,
-    Found(usize, Referrer),
-}
+pub type Probed = Option<(usize, Referrer)>;
 
 // By what a phase settles: no clause, STAY, or DO with the command of its action clause, which has run.
 #[derive(Clone, Copy)]
@@ -85,76 +79,40 @@ pub enum Loops {
     Free(usize),
 }
 
-// The answers to the questions about a sheet: refused, or what is given. A command's has two parts: its handling, and the when phase from the
-// state that it leaves.
+// Why a class text is not read: refused; or the start of the first word that cannot stand.
 #[derive(Clone, Copy)]
-pub enum JudgeAnswer {
-    Refused(Refusal),
-    Accepted,
-}
-
-#[derive(Clone, Copy)]
-pub enum ProbeAnswer {
-    Refused(Refusal),
-    Given(Probed),
-}
-
-#[derive(Clone, Copy)]
-pub enum PhaseAnswer {
-    Refused(Refusal),
-    Given(Phase),
-}
-
-#[derive(Clone, Copy)]
-pub enum CommandAnswer {
-    Refused(Refusal),
-    Given(Handling, Phase),
-}
-
-#[derive(Clone, Copy)]
-pub enum LoopAnswer {
-    Refused(Refusal),
-    Given(Loops),
-}
-
-// The answer to a class text: refused; the start of the first word that cannot stand; or read, the length of the sheet and the number of
-// own states.
-#[derive(Clone, Copy)]
-pub enum ReadAnswer {
+pub enum Misread {
     Refused(Refusal),
     WrongWord(usize),
-    Read(usize, usize),
-}
-
-// The answer to a sheet whose text is asked for: refused, or the number of bytes written.
-#[derive(Clone, Copy)]
-pub enum WriteAnswer {
-    Refused(Refusal),
-    Written(usize),
 }
 
 // The number of a refusal in the paper's table.
-pub fn refusal_number(x: Refusal) -> u64
-    ensures { result ≡ number_of x }
-{
-    match x {
-        Refusal::SheetLength => 1,
-        Refusal::Contents => 2,
-        Refusal::EmptyNameSet => 3,
-        Refusal::ClauseCounts => 4,
-        Refusal::GuardLayout => 5,
-        Refusal::GuardReach => 6,
-        Refusal::Target => 7,
-        Refusal::ActionClause => 8,
-        Refusal::Statement => 9,
-        Refusal::ChildList => 10,
-        Refusal::AskedState => 11,
-        Refusal::AskedCommand => 12,
-        Refusal::PresentBit => 13,
-        Refusal::NameCount => 14,
-        Refusal::Room => 15,
-        Refusal::Naming => 17,
-        Refusal::Limit => 18,
-        Refusal::WrittenGuards => 19,
+impl From<Refusal> for u64 {
+    ghost use Rattle.std.specs.Prelude.{◌≡◌};
+    ghost use Rattle.model.specs.Refusals.{number_of};
+
+    ghost from_gives = { λ x n. n ≡ number_of x };
+
+    fn from(x: Refusal) -> u64 {
+        match x {
+            Refusal::SheetLength => 1,
+            Refusal::Contents => 2,
+            Refusal::EmptyNameSet => 3,
+            Refusal::ClauseCounts => 4,
+            Refusal::GuardLayout => 5,
+            Refusal::GuardReach => 6,
+            Refusal::Target => 7,
+            Refusal::ActionClause => 8,
+            Refusal::Statement => 9,
+            Refusal::ChildList => 10,
+            Refusal::AskedState => 11,
+            Refusal::AskedCommand => 12,
+            Refusal::PresentBit => 13,
+            Refusal::NameCount => 14,
+            Refusal::Room => 15,
+            Refusal::Naming => 17,
+            Refusal::Limit => 18,
+            Refusal::WrittenGuards => 19,
+        }
     }
 }

@@ -6,6 +6,7 @@ use mathlib.Core.Path.{◌≡◌, refl, sym, ◌∙◌, ap}
 use mathlib.Core.Bool.{Bool, true, false}
 use mathlib.Core.List.{List}
 use mathlib.Core.Logic.{◌⊎◌, inl, inr}
+use Rattle.std.specs.Prelude.{Some, None}
 use Rattle.model.specs.Words.{listed}
 use Rattle.model.specs.Tree.{Child, When, State}
 use Rattle.model.specs.Guards.{holds}
@@ -29,7 +30,6 @@ use Rattle.sheet.proofs.Reading.{state_of_in, state_of_past}
 use Rattle.node.specs.Values.{truth_of}
 use Rattle.node.specs.Probing.{clause_true, first_hit, Probes}
 use Rattle.children.specs.NameSets.{Crewed}
-use Rattle.model.specs.declared.Probed.TheVariants.{Nothing, Found}
 use Rattle.node.proofs.Agree.{truth_agree}
 
 -- a clause's truth, read of the bodies
@@ -116,7 +116,7 @@ module _ (b : List ℕ) (p : Places) (stands : Stands b p) (q : ℕ) where
     unfolding class_of bodies state_in
     whens_listed l = rw (run_is.first_is, run_is.count_is) (ap (λ (s : State). s.whens) (state_of_in (bodies b) q l))
 
-    pub probes_none : k ≡ r.count → Probes b sets q Nothing
+    pub probes_none : k ≡ r.count → Probes b sets q None
     unfolding probe class_of bodies first_true
     probes_none e ks crewed = go (lt_or_le q (in_fours (body b 1)))
       where
@@ -127,7 +127,7 @@ module _ (b : List ℕ) (p : Places) (stands : Stands b p) (q : ℕ) where
         go (inr l) = rw (state_of_past (bodies b) q l)
 
     pub probes_found : (k ≡ r.count → ⊥) → (whens : List ℕ) → whens ≡ body b 2 → (x : Referrer)
-        → referrer_as x ≡ referrer_of (referrer_number whens (r.first + k)) (target whens (r.first + k)) → Probes b sets q (Found k x)
+        → referrer_as x ≡ referrer_of (referrer_number whens (r.first + k)) (target whens (r.first + k)) → Probes b sets q (Some (k, x))
     unfolding probe when_in bodies
     probes_found m whens e x f ks crewed = go (lt_or_le q (in_fours (body b 1)))
       where

@@ -8,10 +8,9 @@ use Rattle.sheet.specs.Contents.{body}
 use Rattle.bodies.specs.Clauses.{guard_place}
 use Rattle.records.specs.GuardRecords.{guard_from}
 use Rattle.sheet.specs.Reading.{class_of}
-use Rattle.model.specs.Answers.{probed_as}
+use Rattle.model.specs.Answers.{probed_as, Probed}
 use Rattle.children.specs.NameSets.{Crewed}
 use Rattle.node.specs.Values.{truth_of}
-use Rattle.model.specs.declared.Probed.{Probed}
 
 -- when clause w's guard on the sets
 unfoldable pub clause_true : List ℕ → List ℕ → ℕ → Bool

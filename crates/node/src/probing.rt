@@ -46,7 +46,7 @@ pub fn probe(sheet: &[u8], p: Places, q: OwnState, sets: [u32; 8]) -> Probed
     let n = clauses.count;
     let hit = first_true(sheet, p, first, n, sets);
     if hit == n {
-        return Probed::Nothing;
+        return None;
     }
-    Probed::Found(hit, referrer_at(body_of(sheet, p, WHENS), first + hit))
+    Some((hit, referrer_at(body_of(sheet, p, WHENS), first + hit)))
 }
