@@ -3,9 +3,9 @@
 use Prim.Native.Nat.{ℕ}
 use mathlib.Core.Path.{◌≡◌, refl, ◌∙◌, ap}
 use mathlib.Core.List.{List}
-use Rattle.model.specs.Answers.{read_numbers}
-use Rattle.model.specs.declared.ReadAnswer.{ReadAnswer}
-use Rattle.model.specs.declared.ReadAnswer.TheVariants as R
+use Rattle.std.specs.Prelude.{Ok, Err}
+use Rattle.model.specs.declared.Misread.TheVariants.{Refused, WrongWord}
+use Rattle.model.specs.Answers.{read_numbers, ReadAnswer}
 use Rattle.readings.specs.Readings.{Lent, Outcome}
 use Rattle.readings.specs.Promise as Promise
 use Rattle.readings.specs.Promise.{reading_as, came}
@@ -17,9 +17,9 @@ use Rattle.askread.specs.AskRead.{line_of_text}
 
 -- the numbers of an answer to a class text
 numbers_read : (r : ReadAnswer) → read_numbers r ≡ numbers_in (reading_as r)
-numbers_read (R.Refused x) = refl
-numbers_read (R.WrongWord place) = refl
-numbers_read (R.Read length states) = refl
+numbers_read (Err (Refused x)) = refl
+numbers_read (Err (WrongWord place)) = refl
+numbers_read (Ok (length, states)) = refl
 
 pub text_put : (l m : List ℕ) (end : ℕ) (q : Lent) (r : ReadAnswer) (sheet table : List ℕ) → Promise.Answered q r sheet table → Appended l m 0 (read_line (read_numbers r) sheet table) end
     → Appended l m 0 (line_of_text q) end

@@ -10,8 +10,7 @@ use borrow.Author.Tests.{le-leb, lt-leb}
 use Rattle.model.specs.Tree.{Child, Class}
 use Rattle.model.specs.Crews.{child_classes}
 use Rattle.model.specs.Replies.{Reply, refuse, give, written, Answered}
-use Rattle.model.specs.Answers.{loop_numbers}
-use Rattle.model.specs.declared.LoopAnswer.{LoopAnswer}
+use Rattle.model.specs.Answers.{loop_numbers, LoopAnswer}
 use Rattle.model.proofs.Words.{passed, not_passed}
 use Rattle.model.proofs.AnswerLaws.{same_loop}
 use Rattle.model.proofs.ReplyLaws.{answered, answered_once}

@@ -3,9 +3,8 @@
 use Rattle.std.specs.Prelude.{ℕ, ◌≡◌, List, length}
 use Rattle.model.specs.Tree.{Child}
 use Rattle.model.specs.Replies.{Reply, Answered}
-use Rattle.model.specs.Answers.{loop_numbers}
+use Rattle.model.specs.Answers.{loop_numbers, LoopAnswer}
 use Rattle.model.specs.Unique.{LeavesOne}
-use Rattle.model.specs.declared.LoopAnswer.{LoopAnswer}
 use Rattle.configurations.specs.LoopAnswer.{Loops}
 use Rattle.configurations.specs.Cells.{first_twenty}
 use Rattle.configurations.specs.declared.Cells.{Cells}

@@ -11,7 +11,7 @@ use crate::chase::returning_in;
 use accepted::held::CLASSES;
 use accepted::readers::{body_of, class_count};
 use blocks::search::{Outcome, search};
-use model::{LoopAnswer, Loops, Refusal};
+use model::{Loops, Refusal};
 use sheet::judging::Places;
 
 // No present bit is at or over K.
@@ -29,28 +29,28 @@ fn present_ok(present: u8, classes: usize) -> bool
 }
 
 // Which states of children of the present classes can make the node loop, or how many moves does it make at most?
-pub fn loop_with(sheet: &[u8], p: Places, present: u8, out: &mut [u8]) -> LoopAnswer
+pub fn loop_with(sheet: &[u8], p: Places, present: u8, out: &mut [u8]) -> Result<Loops, Refusal>
     requires { Stands sheet.now p }
     ensures { Answered loops_values (reply_loop (class_of sheet.now) present out.old) out.old (loop_numbers result) out.new }
 {
     if !present_ok(present, class_count(sheet, p)) {
-        return LoopAnswer::Refused(Refusal::PresentBit);
+        return Err(Refusal::PresentBit);
     }
     let cells = read_cells(body_of(sheet, p, CLASSES), present);
     let n = cells.count;
     if 20 < n {
-        return LoopAnswer::Refused(Refusal::NameCount);
+        return Err(Refusal::NameCount);
     }
     if out.len() < 2 * n {
-        return LoopAnswer::Refused(Refusal::Room);
+        return Err(Refusal::Room);
     }
     let found = search(sheet, p, present, cells);
     match found {
         Outcome::Loop(k) => {
             let q = returning_in(sheet, p, cells, k);
             write_list(cells, k, out);
-            LoopAnswer::Given(Loops::Loop(k, q))
+            Ok(Loops::Loop(k, q))
         }
-        Outcome::Free(m) => LoopAnswer::Given(Loops::Free(m)),
+        Outcome::Free(m) => Ok(Loops::Free(m)),
     }
 }

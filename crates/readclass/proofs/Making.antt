@@ -5,7 +5,6 @@ use native.Mathlib.Omega.{arith}
 use mathlib.Core.Path.{◌≡◌, refl, sym, ◌∙◌, ap, subst}
 use mathlib.Core.List.{List}
 use lib.ListN.{length, replicate}
-use Rattle.model.specs.declared.ReadAnswer.{ReadAnswer}
 use Rattle.naming.specs.NameLists.{Lists}
 use Rattle.readings.specs.Promise.{Answered}
 use Rattle.classfile.specs.Heads as H
@@ -17,6 +16,7 @@ use Rattle.classfile.specs.declared.heads.HeadAnswer.{HeadAnswer}
 use Rattle.classfile.specs.declared.heads.HeadAnswer.TheVariants as A
 use Rattle.classfile.proofs.GivenLaws.{head_read, head_wrong, full_room}
 use Rattle.readclass.specs.Made.{size_read, TextRead, Made, Converted}
+use Rattle.model.specs.Answers.{ReadAnswer}
 
 module _ (file n c k : List ℕ) (r : HeadAnswer) (n' c' k' : List ℕ) (h : HeadRead file n c k r n' c' k') (before : List ℕ) where
   -- a head that is read, and the text behind it

@@ -1,14 +1,14 @@
 -- What the program prints of a class file: the sheet of its class text, read with the lists of its head; nothing where either is refused.
 -- Assumes nothing.
-use Rattle.std.specs.Prelude.{ℕ, ◌<◌, ◌≤◌, ◌≡◌, List, length, replicate}
-use Rattle.model.specs.declared.ReadAnswer.{ReadAnswer}
-use Rattle.model.specs.declared.ReadAnswer.TheVariants as R
+use Rattle.std.specs.Prelude.{ℕ, ◌<◌, ◌≤◌, ◌≡◌, List, length, replicate, Ok, Err}
 use Rattle.naming.specs.NameLists.{Lists}
 use Rattle.readings.specs.Promise.{Answered}
 use Rattle.classfile.specs.Heads as H
 use Rattle.classfile.specs.Heads.{stretch, head_of, room}
 use Rattle.readclass.specs.declared.converting.Outcome.{Outcome}
 use Rattle.readclass.specs.declared.converting.Outcome.TheVariants as O
+use Rattle.model.specs.declared.Misread.TheVariants.{Refused, WrongWord}
+use Rattle.model.specs.Answers.{ReadAnswer}
 
 -- how many bytes of the sheet are printed
 abbrev pub size_of : Outcome → ℕ
@@ -16,9 +16,9 @@ size_of (O.Sheet size) = size
 size_of (O.Refused why) = 0
 
 abbrev pub size_read : ReadAnswer → ℕ
-size_read (R.Read size states) = size
-size_read (R.WrongWord place) = 0
-size_read (R.Refused x) = 0
+size_read (Ok (size, states)) = size
+size_read (Err (WrongWord place)) = 0
+size_read (Err (Refused x)) = 0
 
 -- a class text is read with these lists, and its sheet is left in the buffer, of that many bytes
 pub record TextRead (text : List ℕ) (l : Lists) (before : List ℕ) (size : ℕ) (after : List ℕ) : Type 0 where

@@ -7,7 +7,7 @@ ghost use Rattle.readclass.specs.Made.{size_of, TextRead, Made, Converted};
 
 use crate::reasons::{too_long, wrong_text, wrong_word};
 use classfile::heads::{CLASSES, COMMANDS, HeadAnswer, NAMES, Used, read_head};
-use model::{ReadAnswer, refusal_number};
+use model::Misread;
 use reading::read_class;
 use saying::Why;
 use saying::heads::wrong_line;
@@ -38,13 +38,13 @@ fn text_made(
     let mut table = [0u8; NAMES];
     let answer = read_class(&file[start..], names, commands, classes, sheet, &mut table);
     match answer {
-        ReadAnswer::Read(size, _) => Outcome::Sheet(size),
-        ReadAnswer::WrongWord(place) => Outcome::Refused(wrong_word(
+        Ok((size, _)) => Outcome::Sheet(size),
+        Err(Misread::WrongWord(place)) => Outcome::Refused(wrong_word(
             file,
             in_file(file, start, place),
         )),
-        ReadAnswer::Refused(x) => Outcome::Refused(wrong_text(
-            refusal_number(x),
+        Err(Misread::Refused(x)) => Outcome::Refused(wrong_text(
+            u64::from(x),
             file,
             start,
             names,

@@ -11,13 +11,14 @@ use mathlib.Core.Logic.{inr}
 use lib.Seq.{sets}
 use Rattle.naming.proofs.TableLaws as Table
 use borrow.Author.Tests.{lt-leb, le-leb, leb-true}
+use Rattle.std.specs.Prelude.{Ok, Err}
+use Rattle.model.specs.declared.Misread.TheVariants.{Refused, WrongWord}
+use Rattle.model.specs.Answers.{ReadAnswer}
 use Rattle.model.proofs.Words.{and_left, and_right, and_both}
 use Rattle.model.proofs.Lists.{length_listed}
 use Rattle.model.specs.Replies.{written}
 use Rattle.model.specs.Tree.{Class}
 use Rattle.records.specs.Bytes.{u32}
-use Rattle.model.specs.declared.ReadAnswer.{ReadAnswer}
-use Rattle.model.specs.declared.ReadAnswer.TheVariants.{Refused, WrongWord, Read}
 use Rattle.grammar.specs.Grammar.{Text}
 use Rattle.grammar.specs.Reading.{Says, WrongAt}
 use Rattle.recognised.specs.Recognised.{Recognised}
@@ -54,7 +55,7 @@ use Rattle.readings.specs.Promise.{Answered}
 use Rattle.reading.specs.Ways.{OfText, OfKnown, OfWithin}
 
 -- 16
-pub found_wrong : (q : Lent) (f : Found) (p : ℕ) → Recognised q.text f → f ≡ Wrong p → Answered q (WrongWord p) q.sheet q.table
+pub found_wrong : (q : Lent) (f : Found) (p : ℕ) → Recognised q.text f → f ≡ Wrong p → Answered q (Err (WrongWord p)) q.sheet q.table
 unfolding Recognised
 found_wrong q f p r e = let w : WrongAt q.text p = rw e at r in goes_wrong q p w
 
@@ -78,13 +79,13 @@ table_long q t n w e = table_size_is (class_for q t) w n e ∙ ap (λ (k : ℕ).
 module _ (q : Lent) (n : Sizes) (guards : List ℕ) where
   module _ (m : ℕ) (a : m ≡ sheet_size (length q.lists.classes / 36) n) where
     -- 15
-    pub short_sheet : length q.sheet < m → OfWithin q n guards (Refused Room) q.sheet q.table
+    pub short_sheet : length q.sheet < m → OfWithin q n guards (Err (Refused Room)) q.sheet q.table
     unfolding room
     short_sheet h t says known w within e g =
         room_wanting q t says known w (rw (lt-leb (length (sheet_for q t)) (length q.sheet) (omega (arith, a, sheet_long q t n within e))))
 
     module _ (k : ℕ) (b : k ≡ table_size n) where
-      pub short_table : length q.table < k → OfWithin q n guards (Refused Room) q.sheet q.table
+      pub short_table : length q.table < k → OfWithin q n guards (Err (Refused Room)) q.sheet q.table
       unfolding room
       short_table h t says known w within e g =
           room_wanting q t says known w (rw (lt-leb (32 * own_states t) (length q.table) (omega (arith, b, table_long q t n within e)), and-false))
@@ -93,7 +94,7 @@ module _ (q : Lent) (n : Sizes) (guards : List ℕ) where
       pub all_read : (sheet table : List ℕ) (r s : ℕ) → m ≤ length q.sheet → k ≤ length q.table
           → WritesSheet q.text q.lists.commands q.lists.classes n guards q.sheet sheet r
           → Puts (table_bytes (names_from q.text 2 26 0)) q.table 0 table s
-          → OfWithin q n guards (Read m n.states) sheet table
+          → OfWithin q n guards (Ok (m, n.states)) sheet table
       unfolding room filled known table_of table_bytes sizes_in
       all_read sheet table r s h i p u t says kn w within e g =
           let L = a ∙ sheet_long q t n within e in
@@ -109,10 +110,10 @@ module _ (q : Lent) (n : Sizes) (guards : List ℕ) where
           subst (Answers q) (λ i. record { reading = read (sym L i) (sym z i); sheet = sym x i; table = sym y i }) c
 
 -- 17
-pub wrong_lists : (q : Lent) → lists_right q.lists ≡ false → OfText q (Refused Naming) q.sheet q.table
+pub wrong_lists : (q : Lent) → lists_right q.lists ≡ false → OfText q (Err (Refused Naming)) q.sheet q.table
 wrong_lists q h t says = lists_wrong q t says h
 
-pub unknown_name : (q : Lent) (b : Bool) → ((t : Text) → Says q.text t → b ≡ text_known q.lists t) → b ≡ false → OfText q (Refused Naming) q.sheet q.table
+pub unknown_name : (q : Lent) (b : Bool) → ((t : Text) → Says q.text t → b ≡ text_known q.lists t) → b ≡ false → OfText q (Err (Refused Naming)) q.sheet q.table
 unknown_name q b f h t says = name_unknown q t says (sym (f t says) ∙ h)
 
 pub names_known : (q : Lent) (b : Bool) (r : ReadAnswer) (sheet table : List ℕ) → lists_right q.lists ≡ true
@@ -168,7 +169,7 @@ module _ (q : Lent) (n : Sizes) (z : Sized q.text n) where
       → few_enough n q.lists ≡ (lists_within q.lists && (counts_within (class_for q t) && (sets_within (class_for q t) && depths_within (class_for q t))))
   few_is t says = few_tells q.lists t n (z.of_text q.lists t says) (z.depths q.lists t says)
 
-  pub too_many : (b : Bool) → FewTold n q.lists b → b ≡ false → OfKnown q (Refused Limit) q.sheet q.table
+  pub too_many : (b : Bool) → FewTold n q.lists b → b ≡ false → OfKnown q (Err (Refused Limit)) q.sheet q.table
   too_many b f h t says k =
       passed q t says k
       (within_is q t
@@ -197,7 +198,7 @@ module _ (q : Lent) (n : Sizes) (z : Sized q.text n) where
     unfolding guards_within
     tells t says k = ap shallow (sorted t says k ∙ ap eights (guards_written (class_for q t))) ∙ shallow_tells (guards_of (class_for q t))
 
-    pub too_deep : shallow (take (count * 8) bytes) ≡ false → OfKnown q (Refused Limit) q.sheet q.table
+    pub too_deep : shallow (take (count * 8) bytes) ≡ false → OfKnown q (Err (Refused Limit)) q.sheet q.table
     too_deep d t says k =
         passed q t says k
         (within_is q t

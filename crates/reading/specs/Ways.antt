@@ -1,7 +1,6 @@
 -- What the functions promise that read a text of the grammar, each where what was tested before it passed.
 -- Assumes nothing.
 use Rattle.std.specs.Prelude.{ℕ, ◌≡◌, true, List}
-use Rattle.model.specs.declared.ReadAnswer.{ReadAnswer}
 use Rattle.grammar.specs.Grammar.{Text}
 use Rattle.grammar.specs.Reading.{Says}
 use Rattle.encoding.specs.Records.{eights}
@@ -11,6 +10,7 @@ use Rattle.sizes.specs.Sized.{sizes_in}
 use Rattle.sizes.specs.declared.Sizes.{Sizes}
 use Rattle.readings.specs.Readings.{Lent, class_for, known, within}
 use Rattle.readings.specs.Promise.{Answered}
+use Rattle.model.specs.Answers.{ReadAnswer}
 
 -- the text is one of the grammar
 abbrev pub OfText : Lent → ReadAnswer → List ℕ → List ℕ → Type 0

@@ -9,7 +9,7 @@ use known::text_known;
 use laying::write_table;
 use lent::lists_right;
 use limits::{all_shallow, few_enough};
-use model::{ReadAnswer, Refusal};
+use model::{Misread, Refusal};
 use prefixed::walks::order_guards;
 use recognised::{Found, first_wrong};
 use sheets::{sheet_length, table_length, write_sheet};
@@ -23,12 +23,12 @@ pub fn read_class(
     classes: &[u8],
     sheet: &mut [u8],
     table: &mut [u8],
-) -> ReadAnswer
+) -> Result<(usize, usize), Misread>
     ensures { Answered (asked text.now names.now commands.now classes.now sheet.old table.old) result sheet.new table.new }
 {
     let found = first_wrong(text);
     match found {
-        Found::Wrong(place) => ReadAnswer::WrongWord(place),
+        Found::Wrong(place) => Err(Misread::WrongWord(place)),
         Found::Fine => read_text(text, names, commands, classes, sheet, table),
     }
 }
@@ -41,14 +41,14 @@ fn read_text(
     classes: &[u8],
     sheet: &mut [u8],
     table: &mut [u8],
-) -> ReadAnswer
+) -> Result<(usize, usize), Misread>
     ensures { OfText (asked text.now names.now commands.now classes.now sheet.old table.old) result sheet.new table.new }
 {
     if !lists_right(names, commands, classes) {
-        return ReadAnswer::Refused(Refusal::Naming);
+        return Err(Misread::Refused(Refusal::Naming));
     }
     if !text_known(text, names, commands, classes) {
-        return ReadAnswer::Refused(Refusal::Naming);
+        return Err(Misread::Refused(Refusal::Naming));
     }
     read_known(text, names, commands, classes, sheet, table)
 }
@@ -68,18 +68,18 @@ fn read_known(
     classes: &[u8],
     sheet: &mut [u8],
     table: &mut [u8],
-) -> ReadAnswer
+) -> Result<(usize, usize), Misread>
     ensures { OfKnown (asked text.now names.now commands.now classes.now sheet.old table.old) result sheet.new table.new }
 {
     let n = sizes_of(text);
     if !few_enough(n, names, commands, classes) {
-        return ReadAnswer::Refused(Refusal::Limit);
+        return Err(Misread::Refused(Refusal::Limit));
     }
     let mut records = empty_records();
     let count = order_guards(text, names, classes, &mut records);
     let end = count * 8;
     if !all_shallow(&records[..end]) {
-        return ReadAnswer::Refused(Refusal::Limit);
+        return Err(Misread::Refused(Refusal::Limit));
     }
     read_within(text, commands, classes, n, &records[..end], sheet, table)
 }
@@ -93,17 +93,17 @@ fn read_within(
     guards: &[u8],
     sheet: &mut [u8],
     table: &mut [u8],
-) -> ReadAnswer
+) -> Result<(usize, usize), Misread>
     ensures { OfWritten (λ names. asked text.now names commands.now classes.now sheet.old table.old) n guards.now result sheet.new table.new }
 {
     let length = sheet_length(classes.len() / 36, n);
     if sheet.len() < length {
-        return ReadAnswer::Refused(Refusal::Room);
+        return Err(Misread::Refused(Refusal::Room));
     }
     if table.len() < table_length(n) {
-        return ReadAnswer::Refused(Refusal::Room);
+        return Err(Misread::Refused(Refusal::Room));
     }
     write_sheet(text, commands, classes, n, guards, sheet);
     write_table(text, table);
-    ReadAnswer::Read(length, n.states)
+    Ok((length, n.states))
 }

@@ -1,16 +1,16 @@
 -- The answer in the code's terms: what a function that reads a class text promises.
 -- Assumes nothing.
-use Rattle.std.specs.Prelude.{ℕ, List}
+use Rattle.std.specs.Prelude.{ℕ, List, Ok, Err}
+use Rattle.model.specs.declared.Misread.TheVariants.{Refused, WrongWord}
+use Rattle.model.specs.Answers.{ReadAnswer}
 use Rattle.model.specs.Refusals.{number_of}
-use Rattle.model.specs.declared.ReadAnswer.{ReadAnswer}
-use Rattle.model.specs.declared.ReadAnswer.TheVariants.{Refused, WrongWord, Read}
 use Rattle.readings.specs.Readings.{Lent, Reading, wrong, refused, read, Outcome, Answers}
 
 -- an answer as the definitions have it
 abbrev pub reading_as : ReadAnswer → Reading
-reading_as (Refused x) = refused (number_of x)
-reading_as (WrongWord place) = wrong place
-reading_as (Read length states) = read length states
+reading_as (Err (Refused x)) = refused (number_of x)
+reading_as (Err (WrongWord place)) = wrong place
+reading_as (Ok (length, states)) = read length states
 
 -- what was lent
 abbrev pub asked : List ℕ → List ℕ → List ℕ → List ℕ → List ℕ → List ℕ → Lent

@@ -9,13 +9,12 @@ use lib.Dec.{eqb, leb}
 use lib.ListN.{length, take, drop, replicate, length-append, length-take, length-drop}
 use lib.Seq.{take-append_seam, take-take}
 use borrow.Author.Tests.{leb-true, eqb-true, lt-ltb, le-ltb}
+use Rattle.std.specs.Prelude.{Ok, Err}
 use Rattle.model.specs.Tree.{Class}
 use Rattle.model.specs.Refusals.{number_of}
-use Rattle.model.specs.Answers.{write_numbers}
+use Rattle.model.specs.Answers.{write_numbers, WriteAnswer}
 use Rattle.model.specs.Replies.{Reply, refuse, give, check, in_room, Answered}
 use Rattle.model.specs.declared.Refusal.{Refusal}
-use Rattle.model.specs.declared.WriteAnswer.{WriteAnswer}
-use Rattle.model.specs.declared.WriteAnswer.TheVariants as T
 use Rattle.model.proofs.ReplyLaws.{answered}
 use Rattle.model.proofs.Words.{and_left}
 use Rattle.grammar.proofs.Machine.{clash}
@@ -58,7 +57,7 @@ nothing file want text why e = record { inside = tt; prints = sym e }
 
 module _ (b : List ℕ) (n : Named) (out : List ℕ) where
   -- the judge refused, or the text was asked for
-  pub judge_refused : (r : Verdict) (x : Refusal) → verdict_numbers r ≡ verdict b → r ≡ Refused x → Replied b n out (T.Refused x) out
+  pub judge_refused : (r : Verdict) (x : Refusal) → verdict_numbers r ≡ verdict b → r ≡ Refused x → Replied b n out (Err x) out
   unfolding text_reply
   judge_refused r x e a = answered text_values (text_reply b n out) (refuse (number_of x)) (refused_too b r e x a (λ c. reply_text n c out)) out out refl
 
@@ -94,7 +93,7 @@ sized b n out = sized_check out (eqb (refusal b) 0) (refusal b) (λ _. reply_tex
 
 module _ (file out : List ℕ) (n : Named) (from start : ℕ) (r : WriteAnswer) (after : List ℕ) (h : Replied (stretch file start (length file)) n out r after) where
   -- the text was written
-  pub text_written : (size : ℕ) → r ≡ T.Written size → from ≤ start → start ≤ length file → Prints file (text_file file out n from start) (O.Text from start size) after
+  pub text_written : (size : ℕ) → r ≡ Ok size → from ≤ start → start ≤ length file → Prints file (text_file file out n from start) (O.Text from start size) after
   unfolding text_file
   text_written size e l m = go (text_reply (stretch file start (length file)) n out) (sized (stretch file start (length file)) n out) (subst (λ (w : WriteAnswer). Answered text_values (text_reply (stretch file start (length file)) n out) out (write_numbers w) after) e h)
     where
@@ -107,7 +106,7 @@ module _ (file out : List ℕ) (n : Named) (from start : ℕ) (r : WriteAnswer) 
           record { inside = (l, m, omega arith); prints = ap (λ (x : List ℕ). stretch file from start ++ x) t }
 
   -- it was not
-  pub text_refused : (x : Refusal) → r ≡ T.Refused x → (why : Why) → Prints file (text_file file out n from start) (O.Refused why) after
+  pub text_refused : (x : Refusal) → r ≡ Err x → (why : Why) → Prints file (text_file file out n from start) (O.Refused why) after
   unfolding text_file
   text_refused x e why = nothing file (text_file file out n from start) after why (go (text_reply (stretch file start (length file)) n out) (subst (λ (w : WriteAnswer). Answered text_values (text_reply (stretch file start (length file)) n out) out (write_numbers w) after) e h))
     where

@@ -3,9 +3,8 @@
 -- Assumes nothing.
 use Rattle.std.specs.Prelude.{ℕ, ◌+◌, ◌≤◌, ◌≡◌, Bool, ◌&&◌, List, [], ◌++◌, eqb, ltb, length, take}
 use Rattle.model.specs.Words.{choose}
-use Rattle.model.specs.Answers.{write_numbers}
+use Rattle.model.specs.Answers.{write_numbers, WriteAnswer}
 use Rattle.model.specs.Replies.{Reply, refuse, give, Answered}
-use Rattle.model.specs.declared.WriteAnswer.{WriteAnswer}
 use Rattle.naming.specs.NameLists.{Lists}
 use Rattle.sheet.specs.Asked.{on_sheet}
 use Rattle.writings.specs.Layout.{Named}

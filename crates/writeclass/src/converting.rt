@@ -7,7 +7,7 @@ ghost use Rattle.writeclass.specs.Made.{one_class, Replied, text_file, second_fi
 
 use crate::reasons::{too_long, wrong_own, wrong_text};
 use classfile::heads::{CLASSES, COMMANDS, HeadAnswer, NAMES, Used, read_head};
-use model::{WriteAnswer, refusal_number};
+use model::Refusal;
 use saying::Why;
 use saying::heads::wrong_line;
 use saying::places::in_file;
@@ -33,7 +33,7 @@ fn written(
     commands: &[u8],
     classes: &[u8],
     text: &mut [u8],
-) -> WriteAnswer
+) -> Result<usize, Refusal>
     ensures { Replied sheet.now (named own_name.now own_states.now names.now commands.now classes.now) text.old result text.new }
 {
     let verdict = judge(sheet);
@@ -41,7 +41,7 @@ fn written(
         Verdict::Accepted(p) => write_text(
             sheet, p, own_name, own_states, names, commands, classes, text,
         ),
-        Verdict::Refused(x) => WriteAnswer::Refused(x),
+        Verdict::Refused(x) => Err(x),
     }
 }
 
@@ -70,9 +70,9 @@ fn text_made(
         text,
     );
     match answer {
-        WriteAnswer::Written(size) => Outcome::Text(from, start, size),
-        WriteAnswer::Refused(x) => Outcome::Refused(wrong_text(
-            refusal_number(x),
+        Ok(size) => Outcome::Text(from, start, size),
+        Err(x) => Outcome::Refused(wrong_text(
+            u64::from(x),
             file,
             from,
             &file[start..],

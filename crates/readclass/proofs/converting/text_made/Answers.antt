@@ -2,11 +2,11 @@ use mathlib.Core.Path.{refl}
 use Rattle.readclass.proofs.Making.{text_read}
 use Rattle.readclass.proofs.converting.text_made.Goals as goal
 
-pub returns-in-Read : goal.returns-in-Read
-returns-in-Read c = text_read _ _ _ _ _ _ c.read_class-answer.ensures _ c.in-Read.is _ refl
+pub returns-in-Ok : goal.returns-in-Ok
+returns-in-Ok c = text_read _ _ _ _ _ _ c.read_class-answer.ensures _ c.in-Ok.is _ refl
 
-pub returns-in-WrongWord : goal.returns-in-WrongWord
-returns-in-WrongWord c = text_read _ _ _ _ _ _ c.read_class-answer.ensures _ c.in-WrongWord.is _ refl
+pub returns-in-Err-WrongWord : goal.returns-in-Err-WrongWord
+returns-in-Err-WrongWord c = text_read _ _ _ _ _ _ c.read_class-answer.ensures _ c.in-Err-WrongWord.is _ refl
 
-pub returns-in-Refused : goal.returns-in-Refused
-returns-in-Refused c = text_read _ _ _ _ _ _ c.read_class-answer.ensures _ c.in-Refused.is _ refl
+pub returns-in-Err-Refused : goal.returns-in-Err-Refused
+returns-in-Err-Refused c = text_read _ _ _ _ _ _ c.read_class-answer.ensures _ c.in-Err-Refused.is _ refl
