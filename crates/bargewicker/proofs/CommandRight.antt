@@ -8,6 +8,7 @@ use mathlib.Core.Logic.{◌⊎◌, inl, inr}
 use mathlib.Core.Option.{Option, none, some}
 use lib.ListN.{length, take, drop, length-drop}
 use lib.Seq.{take-append_seam}
+use Rattle.std.specs.Prelude.{Ok, Err}
 use Rattle.model.specs.Words.{maybe}
 use Rattle.model.specs.Tree.{Child, Part, Class}
 use Rattle.model.specs.Running.{run_part}
@@ -15,17 +16,13 @@ use Rattle.model.specs.Node as Node
 use Rattle.model.specs.Node.{state_of}
 use Rattle.model.specs.Commands as Tree
 use Rattle.model.specs.Commands.{handled, ignored, handled_by, clause_for, command, left_by, own_sends, Commanded, command_then_phase}
-use Rattle.model.specs.Answers.{handled_values}
+use Rattle.model.specs.Answers.{handled_values, PhaseAnswer, CommandAnswer}
 use Rattle.model.specs.Replies.{written}
 use Rattle.model.specs.declared.Refusal.{Refusal}
 use Rattle.model.specs.declared.Refusal.TheVariants.{Room}
 use Rattle.model.specs.declared.Handling.{Handling}
 use Rattle.model.specs.declared.Handling.TheVariants.{Ignored, Handled}
 use Rattle.model.specs.declared.Phase.{Phase}
-use Rattle.model.specs.declared.PhaseAnswer.{PhaseAnswer}
-use Rattle.model.specs.declared.PhaseAnswer.TheVariants as W
-use Rattle.model.specs.declared.CommandAnswer.{CommandAnswer}
-use Rattle.model.specs.declared.CommandAnswer.TheVariants as C
 use Rattle.model.proofs.Words.{clash, lt_or_le}
 use Rattle.model.proofs.CommandLaws.{left_within}
 use Rattle.sheet.specs.Reading.{class_of}
@@ -119,9 +116,9 @@ module _ (b l : List ℕ) (q : ℕ) (a : Asked b l q) (m : ℕ) (small : m ≤ 6
   cut_at : (x : List ℕ) → drop n x ≡ behind (own_sends first) x
   cut_at x = ap (λ (k : ℕ). drop k x) (own_three first)
 
-  refused_right : (x : Refusal) (final : List ℕ) → Promised (command_in b l q m out) (C.Refused x) final → CommandRight c ks q m out final (C.Refused x)
+  refused_right : (x : Refusal) (final : List ℕ) → Promised (command_in b l q m out) (Err x) final → CommandRight c ks q m out final (Err x)
   refused_right x final h =
-      let (e, short, same) = no_room all out final x (told (C.Refused x) final h) in
+      let (e, short, same) = no_room all out final x (told (Err x) final h) in
       let left : left_by first ≡ (left_in (handling_of first)).0 = sym (left_told first (handling_of first) (handling_is first)) in
       (e, same, handling_of first, own_sends first, handling_right c ks q m (handling_of first) (handling_is first), by left short same (lt_or_le (length out) (3 * length (own_sends first))))
     where
@@ -130,11 +127,11 @@ module _ (b l : List ℕ) (q : ℕ) (a : Asked b l q) (m : ℕ) (small : m ≤ 6
       by left short same (inl w) = inl w
       by left short same (inr w) =
           let k : length (drop n out) < length (bytes_of_phase then) = omega (arith, length-drop n out, own_three first) in
-          inr (w, rw (same, ← cut_at out) (phase_is_right _ left (drop n out) (W.Refused Room) (drop n out) (short_so then (drop n out) (drop n out) k refl)))
+          inr (w, rw (same, ← cut_at out) (phase_is_right _ left (drop n out) (Err Room) (drop n out) (short_so then (drop n out) (drop n out) k refl)))
 
-  module _ (x : Handling) (p : Phase) (final : List ℕ) (h : Promised (command_in b l q m out) (C.Given x p) final) where
-    so : CommandedSo all out final (C.Given x p)
-    so = told (C.Given x p) final h
+  module _ (x : Handling) (p : Phase) (final : List ℕ) (h : Promised (command_in b l q m out) (Ok (x, p)) final) where
+    so : CommandedSo all out final (Ok (x, p))
+    so = told (Ok (x, p)) final h
 
     left_is : (left_in x).0 ≡ left_by first
     left_is = left_told first x (values_told all out final x p so).0
@@ -154,9 +151,9 @@ module _ (b l : List ℕ) (q : ℕ) (a : Asked b l q) (m : ℕ) (small : m ≤ 6
           room = omega (arith, both_fit all out final x p so, own_three first);
           front = front;
           phase =
-              subst (λ (o : List ℕ). PhaseRight c ks (left_in x).0 o (behind (own_sends first) final) (W.Given p)) (cut_at out)
-              (subst (λ (f : List ℕ). PhaseRight c ks (left_in x).0 (drop n out) f (W.Given p)) (cut_at final)
-              (phase_is_right _ (sym left_is) (drop n out) (W.Given p) (drop n final) (phase_told all out final x p so)));
+              subst (λ (o : List ℕ). PhaseRight c ks (left_in x).0 o (behind (own_sends first) final) (Ok p)) (cut_at out)
+              (subst (λ (f : List ℕ). PhaseRight c ks (left_in x).0 (drop n out) f (Ok p)) (cut_at final)
+              (phase_is_right _ (sym left_is) (drop n out) (Ok p) (drop n final) (phase_told all out final x p so)));
         }
 
     pub same_phase : SamePhase b l x p out final
@@ -165,18 +162,18 @@ module _ (b l : List ℕ) (q : ℕ) (a : Asked b l q) (m : ℕ) (small : m ≤ 6
           behind_it = λ r last P.
               let cut : own_in x ≡ n = own_told first x (values_told all out final x p so).0 in
               let Q : Promised (phase_from b l (left_by first) (drop n out)) r last = rw (left_is, cut) at P in
-              let (e, f) = unique.sheets (phase_from b l (left_by first) (drop n out)) r (W.Given p) last (drop n final) Q (phase_promised (drop n out) (W.Given p) (drop n final) (phase_told all out final x p so)) in
+              let (e, f) = unique.sheets (phase_from b l (left_by first) (drop n out)) r (Ok p) last (drop n final) Q (phase_promised (drop n out) (Ok p) (drop n final) (phase_told all out final x p so)) in
               (e, f ∙ ap (λ (k : ℕ). drop k final) (sym cut));
           anywhere = λ rest r last P. by rest r last (rw left_is at P) (lt_or_le (length rest) (length (bytes_of_phase then)));
         }
       where
         by : (rest : List ℕ) (r : PhaseAnswer) (last : List ℕ) → Promised (phase_from b l (left_by first) rest) r last
-            → (length rest < length (bytes_of_phase then)) ⊎ (length (bytes_of_phase then) ≤ length rest) → (r ≡ W.Given p) ⊎ (r ≡ W.Refused Room)
-        by rest r last P (inl w) = inr (unique.sheets (phase_from b l (left_by first) rest) r (W.Refused Room) last rest P (phase_promised rest (W.Refused Room) rest (short_so then rest rest w refl))).0
+            → (length rest < length (bytes_of_phase then)) ⊎ (length (bytes_of_phase then) ≤ length rest) → (r ≡ Ok p) ⊎ (r ≡ Err Room)
+        by rest r last P (inl w) = inr (unique.sheets (phase_from b l (left_by first) rest) r (Err Room) last rest P (phase_promised rest (Err Room) rest (short_so then rest rest w refl))).0
         by rest r last P (inr w) =
-            inl (unique.sheets (phase_from b l (left_by first) rest) r (W.Given p) last (written (bytes_of_phase then) rest) P
-            (phase_promised rest (W.Given p) (written (bytes_of_phase then) rest) (given_so then rest (written (bytes_of_phase then) rest) p (values_told all out final x p so).1 w refl))).0
+            inl (unique.sheets (phase_from b l (left_by first) rest) r (Ok p) last (written (bytes_of_phase then) rest) P
+            (phase_promised rest (Ok p) (written (bytes_of_phase then) rest) (given_so then rest (written (bytes_of_phase then) rest) p (values_told all out final x p so).1 w refl))).0
 
   pub command_right : (r : CommandAnswer) (final : List ℕ) → Promised (command_in b l q m out) r final → CommandRight c ks q m out final r
-  command_right (C.Refused x) final h = refused_right x final h
-  command_right (C.Given x p) final h = given_right x p final h
+  command_right (Err x) final h = refused_right x final h
+  command_right (Ok (x, p)) final h = given_right x p final h

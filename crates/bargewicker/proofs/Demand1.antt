@@ -5,18 +5,13 @@ use mathlib.Core.Path.{◌≡◌, refl, sym, ◌∙◌, ap}
 use mathlib.Core.List.{List, []}
 use mathlib.Core.Logic.{◌↔◌}
 use lib.ListN.{get_or}
+use Rattle.std.specs.Prelude.{Ok, Err}
+use Rattle.model.specs.Answers.{JudgeAnswer}
 use Rattle.model.specs.Refusals.{number_of}
 use Rattle.model.specs.declared.Refusal.{Refusal}
 use Rattle.model.proofs.Words.{clash}
 use Rattle.sheet.specs.Rules.{Accepted}
 use Rattle.model.specs.Replies.{Reply, refuse, give, numbers, buffer_after}
-use Rattle.model.specs.declared.JudgeAnswer.{JudgeAnswer}
-use Rattle.model.specs.declared.JudgeAnswer.TheVariants as J
-use Rattle.model.specs.declared.ProbeAnswer.TheVariants as P
-use Rattle.model.specs.declared.PhaseAnswer.TheVariants as W
-use Rattle.model.specs.declared.CommandAnswer.TheVariants as C
-use Rattle.model.specs.declared.LoopAnswer.TheVariants as L
-use Rattle.model.specs.declared.WriteAnswer.TheVariants as T
 use Rattle.model.proofs.RefusalLaws.{not_zero}
 use Rattle.bargewicker.specs.Questions.{Question, judge, probe_in, phase_from, command_in, loop_with, text_of, Answer, reply, lent}
 use Rattle.bargewicker.specs.Numbers.{values}
@@ -33,18 +28,18 @@ first ns = get_or ns 0 0
 
 -- an answer that is no refusal begins with 0
 no_refusal : (q : Question) (r : AnswerTo q) → ((x : Refusal) → r ≡ refusing q x → ⊥) → first (numbers_of q r) ≡ 0
-no_refusal (judge b) (J.Refused x) h = absurd (h x refl)
-no_refusal (judge b) J.Accepted h = refl
-no_refusal (probe_in b l q) (P.Refused x) h = absurd (h x refl)
-no_refusal (probe_in b l q) (P.Given p) h = refl
-no_refusal (phase_from b l q out) (W.Refused x) h = absurd (h x refl)
-no_refusal (phase_from b l q out) (W.Given p) h = refl
-no_refusal (command_in b l q m out) (C.Refused x) h = absurd (h x refl)
-no_refusal (command_in b l q m out) (C.Given h p) z = refl
-no_refusal (loop_with b present out) (L.Refused x) h = absurd (h x refl)
-no_refusal (loop_with b present out) (L.Given p) h = refl
-no_refusal (text_of b n out) (T.Refused x) h = absurd (h x refl)
-no_refusal (text_of b n out) (T.Written m) h = refl
+no_refusal (judge b) (Err x) h = absurd (h x refl)
+no_refusal (judge b) (Ok u) h = refl
+no_refusal (probe_in b l q) (Err x) h = absurd (h x refl)
+no_refusal (probe_in b l q) (Ok p) h = refl
+no_refusal (phase_from b l q out) (Err x) h = absurd (h x refl)
+no_refusal (phase_from b l q out) (Ok p) h = refl
+no_refusal (command_in b l q m out) (Err x) h = absurd (h x refl)
+no_refusal (command_in b l q m out) (Ok (h, p)) z = refl
+no_refusal (loop_with b present out) (Err x) h = absurd (h x refl)
+no_refusal (loop_with b present out) (Ok p) h = refl
+no_refusal (text_of b n out) (Err x) h = absurd (h x refl)
+no_refusal (text_of b n out) (Ok m) h = refl
 
 -- a reply begins with its refusal
 reply_first : (p : Reply Answer) → first (numbers values p) ≡ refused_number p
@@ -78,9 +73,9 @@ module _ (q : Question) (r : AnswerTo q) (final : List ℕ) (h : Promised q r fi
       }
 
 -- the judge accepts exactly the sheets that get no refusal
-pub accepted_exactly : (b : List ℕ) (r : JudgeAnswer) (final : List ℕ) → Promised (judge b) r final → (r ≡ J.Accepted) ↔ Accepted b
+pub accepted_exactly : (b : List ℕ) (r : JudgeAnswer) (final : List ℕ) → Promised (judge b) r final → (r ≡ Ok tt) ↔ Accepted b
 unfolding table
 accepted_exactly b r final h = (
   (λ e. sheet_failed b ∙ (demand_1 (judge b) r final h).answered.0 (λ x f. absurd (clash (cc (sym e ∙ f))))),
-  λ a. (unique.sheets (judge b) r J.Accepted final [] h (accepted_so b a)).0,
+  λ a. (unique.sheets (judge b) r (Ok tt) final [] h (accepted_so b a)).0,
 )

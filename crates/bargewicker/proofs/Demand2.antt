@@ -8,22 +8,19 @@ use mathlib.Core.Logic.{◌⊎◌, inl, inr, ◌↔◌}
 use mathlib.Core.Option.{some}
 use lib.ListN.{length}
 use borrow.Author.Tests.{lt-ltb}
+use Rattle.std.specs.Prelude.{Ok, Err}
 use Rattle.model.specs.Tree.{Child, Referrer, move_to, run, stay, Class}
 use Rattle.model.specs.Running.{Sent}
 use Rattle.model.specs.Node.{own_states, state_of, Probed, nothing, found, probe, Ending, by_none, by_stay, by_do, stops, turn_for, turn, next, sends, Phase, settled, loops, phase}
 use Rattle.model.specs.Sound.{Sound, ReferrerRight}
 use Rattle.model.specs.Values.{probed_values}
-use Rattle.model.specs.Answers.{probed_as, ending_as, probe_numbers}
+use Rattle.model.specs.Answers.{probed_as, ending_as, probe_numbers, ProbeAnswer, PhaseAnswer}
 use Rattle.model.specs.Replies.{Reply, give, numbers, written}
 use Rattle.model.specs.declared.OwnState.{OwnState}
 use Rattle.model.specs.declared.Refusal.TheVariants.{Room}
 use Rattle.model.specs.declared.Ending as Code
 use Rattle.model.specs.declared.Ending.TheVariants.{ByNone, ByStay, ByDo}
 use Rattle.model.specs.declared.Phase.TheVariants.{Settled, Loops as Looping}
-use Rattle.model.specs.declared.ProbeAnswer.{ProbeAnswer}
-use Rattle.model.specs.declared.ProbeAnswer.TheVariants as P
-use Rattle.model.specs.declared.PhaseAnswer.{PhaseAnswer}
-use Rattle.model.specs.declared.PhaseAnswer.TheVariants as W
 use Rattle.model.proofs.Words.{clash, true_not_false, lt_or_le}
 use Rattle.model.proofs.NodeLaws.{get_or_mem, probe_found, probe_nothing, led, next_by, stops_none, stops_stay, turn_runs, sent_by, sends_is, PhaseSettled, phase_settled, phase_loops, loops_never}
 use Rattle.model.proofs.RefusalLaws.{not_zero}
@@ -150,8 +147,8 @@ module _ (b l : List ℕ) (q : ℕ) (a : Asked b l q) where
   probe_right r final h = go r (h.numbers_are ∙ ap (numbers values) (fits (λ c. give (probed (probe c ks q)) [])))
     where
       go : (r : ProbeAnswer) → probe_numbers r ≡ 0 ∷ probed_values (probe c ks q) → ProbeRight c ks q r
-      go (P.Refused x) e = not_zero x (cc)
-      go (P.Given p) e = subst (ProbedRight c ks q) (sym (probed_told (probed_as p) (probe c ks q) (cc))) (probed_right c ks q (probe c ks q) refl)
+      go (Err x) e = not_zero x (cc)
+      go (Ok p) e = subst (ProbedRight c ks q) (sym (probed_told (probed_as p) (probe c ks q) (cc))) (probed_right c ks q (probe c ks q) refl)
 
   module _ (out : List ℕ) (r : PhaseAnswer) (final : List ℕ) (h : Promised (phase_from b l q out) r final) where
     -- the answer and the buffer are those that the rules give
@@ -171,7 +168,7 @@ module _ (b l : List ℕ) (q : ℕ) (a : Asked b l q) where
         go : (p : Phase) → phase c ks q ≡ p → PhaseRight c ks q out final r
         go (loops s m) e =
             let (u, t) = phase_loops c ks q s m e in
-            told_phase (W.Given (Looping (own s) m)) out (rw e (given_so (loops s m) out out (Looping (own s) m) refl (omega arith) refl))
+            told_phase (Ok (Looping (own s) m)) out (rw e (given_so (loops s m) out out (Looping (own s) m) refl (omega arith) refl))
             λ k. (loops_never c ks sd q a.state s m e, u, (rw u t), k)
         go (settled d s m sent) e = by (lt_or_le (length out) (3 * length sent))
           where
@@ -181,10 +178,10 @@ module _ (b l : List ℕ) (q : ℕ) (a : Asked b l q) where
             by : (length out < 3 * length sent) ⊎ (3 * length sent ≤ length out) → PhaseRight c ks q out final r
             by (inl short) =
                 let n = three_each sent in
-                told_phase (W.Refused Room) out (rw e (phase_short (settled d s m sent) out out (let w : length out < length (sent_bytes sent) = omega arith in w) refl))
+                told_phase (Err Room) out (rw e (phase_short (settled d s m sent) out out (let w : length out < length (sent_bytes sent) = omega arith in w) refl))
                 λ k. (refl, s, m, S.there, (rw (← S.sent_all) short), k)
             by (inr room) =
                 let n = three_each sent in
-                told_phase (W.Given (Settled (ending_of d) (own s) m (3 * length sent))) (written (sent_bytes sent) out)
+                told_phase (Ok (Settled (ending_of d) (own s) m (3 * length sent))) (written (sent_bytes sent) out)
                 (rw e (given_so (settled d s m sent) out (written (sent_bytes sent) out) (Settled (ending_of d) (own s) m (3 * length sent)) (rw (ending_told d, n)) (let w : length (sent_bytes sent) ≤ length out = omega arith in w) refl))
                 λ k. (S.there, (rw (ending_told d) (stops_so c ks sd s d (sends c ks s) S.by)), record { number = rw (← S.sent_all); room = room; buffer = rw (← S.sent_all) k })

@@ -3,6 +3,8 @@
 use Prim.Native.Nat.{ℕ}
 use mathlib.Core.Path.{◌≡◌, refl, sym, ◌∙◌, ap, subst}
 use mathlib.Core.List.{List, []}
+use Rattle.std.specs.Prelude.{Ok}
+use Rattle.model.specs.Answers.{LoopAnswer}
 use Rattle.model.proofs.Words.{clash}
 use Rattle.sheet.specs.Reading.{class_of}
 use Rattle.children.specs.ChildList.{pairs}
@@ -13,8 +15,6 @@ use Rattle.configurations.specs.Demand.{Demanded}
 use Rattle.configurations.proofs.Demand.{demanded}
 use Rattle.model.specs.Replies.{give, told_as}
 use Rattle.model.specs.declared.Loops.TheVariants.{Loop, Free}
-use Rattle.model.specs.declared.LoopAnswer.{LoopAnswer}
-use Rattle.model.specs.declared.LoopAnswer.TheVariants as L
 use Rattle.model.proofs.ReplyLaws.{answered}
 use Rattle.sheet.proofs.AskedLaws.{asked}
 use Rattle.loops.specs.LoopQuestion.{bytes_of_loops, reply_loop}
@@ -39,14 +39,14 @@ module _ (b : List ℕ) (present : ℕ) (out : List ℕ) (asked_so : AskedLoop b
     where
       go : (a : Loops) → loop_answer (class_of b) present ≡ a → Demanded (class_of b) present a → Demand3 (class_of b) present out final r
       go (free m) e D =
-          let (f, g) = unique.sheets (loop_with b present out) r (L.Given (Free m)) final out h (answered values (reply (loop_with b present out)) (give (looped (free m)) []) (given_reply (free m) e) out out refl) in
+          let (f, g) = unique.sheets (loop_with b present out) r (Ok (Free m)) final out h (answered values (reply (loop_with b present out)) (give (looped (free m)) []) (given_reply (free m) e) out out refl) in
           record {
             free_exactly_if = ((λ _. D.free_exactly_if.0 refl), λ _. (m, f));
             right = subst (LoopsRight (class_of b) present out final) (sym f) (D.right, g);
           }
       go (loop k q ks) e D =
           let after : List ℕ = written (pairs ks) out in
-          let (f, g) = unique.sheets (loop_with b present out) r (L.Given (Loop k (record { 0 = q }))) final after h (answered values (reply (loop_with b present out)) (give (looped (loop k q ks)) (pairs ks)) (given_reply (loop k q ks) e) out after refl) in
+          let (f, g) = unique.sheets (loop_with b present out) r (Ok (Loop k (record { 0 = q }))) final after h (answered values (reply (loop_with b present out)) (give (looped (loop k q ks)) (pairs ks)) (given_reply (loop k q ks) e) out after refl) in
           record {
             free_exactly_if = ((λ (m, z). absurd (clash (cc (sym f ∙ z)))), λ all. absurd (clash (cc (D.free_exactly_if.1 all))));
             right = subst (LoopsRight (class_of b) present out final) (sym f) (ks, D.right, g);

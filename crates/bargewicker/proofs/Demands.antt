@@ -1,7 +1,6 @@
 -- Demands 1, 2 and 3 hold of whatever meets the promises of the face.
 -- Assumes nothing.
 use mathlib.Core.Path.{refl}
-use Rattle.model.specs.declared.ReadAnswer.TheVariants as R
 use Rattle.readings.proofs.ReadLaws.{reads}
 use Rattle.readings.specs.Promise.{came}
 use Rattle.bargewicker.specs.Demands.{Demands}
@@ -11,6 +10,7 @@ use Rattle.bargewicker.proofs.CommandRight.{command_right, same_phase}
 use Rattle.bargewicker.proofs.Demand3.{demand_3}
 use Rattle.bargewicker.proofs.TextRight.{text_right}
 use Rattle.bargewicker.proofs.WrittenBack.{written_back}
+use Rattle.std.specs.Prelude.{Ok}
 
 pub demands : Demands
 demands =
@@ -18,7 +18,7 @@ demands =
       demand1 = demand_1;
       accepted = accepted_exactly;
       reading = λ q r sheet table a. reads.rows q (came r sheet table) a;
-      read = λ q length states sheet table b a. reads.right q (came (R.Read length states) sheet table) b a length states refl;
+      read = λ q length states sheet table b a. reads.right q (came (Ok (length, states)) sheet table) b a length states refl;
       writing = text_right;
       written_back = written_back;
       probing = probe_right;

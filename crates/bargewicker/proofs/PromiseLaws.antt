@@ -3,24 +3,17 @@
 use Prim.Native.Nat.{ℕ, ◌<◌, ◌≤◌}
 use mathlib.Core.Path.{◌≡◌, refl, ◌∙◌, ap}
 use mathlib.Core.List.{List, [], ◌∷◌}
+use Rattle.std.specs.Prelude.{Ok, Err}
 use Rattle.model.specs.Tree.{Class}
 use Rattle.model.specs.Node.{probe, phase}
 use Rattle.model.specs.Refusals.{number_of}
 use Rattle.model.specs.Values.{probed_values}
-use Rattle.model.specs.Answers.{probed_as, phase_numbers, command_numbers, loop_numbers, write_numbers}
+use Rattle.model.specs.Answers.{probed_as, phase_numbers, command_numbers, loop_numbers, write_numbers, Probed, PhaseAnswer, CommandAnswer, LoopAnswer, WriteAnswer}
 use Rattle.model.specs.Replies.{Reply, refuse, give, told_as, Answered}
 use Rattle.model.specs.Node as Node
 use Rattle.model.specs.Commands.{Commanded, command_then_phase}
 use Rattle.model.specs.declared.Refusal.{Refusal}
-use Rattle.model.specs.declared.Probed.{Probed}
-use Rattle.model.specs.declared.JudgeAnswer.TheVariants as J
-use Rattle.model.specs.declared.ProbeAnswer.TheVariants as P
-use Rattle.model.specs.declared.PhaseAnswer.{PhaseAnswer}
 use Rattle.model.specs.declared.Refusal.TheVariants.{AskedCommand}
-use Rattle.model.specs.declared.CommandAnswer.{CommandAnswer}
-use Rattle.model.specs.declared.CommandAnswer.TheVariants as C
-use Rattle.model.specs.declared.LoopAnswer.{LoopAnswer}
-use Rattle.model.specs.declared.WriteAnswer.{WriteAnswer}
 use Rattle.model.proofs.ReplyLaws.{answered, answered_by, answered_as, answered_back}
 use Rattle.sheet.specs.Rules.{Accepted}
 use Rattle.sheet.specs.Reading.{class_of}
@@ -52,13 +45,13 @@ pub refused_so : (q : Question) (x : Refusal) → reply q ≡ refuse (number_of 
 refused_so q x e after g = answered_by values (reply q) (refuse (number_of x)) e (lent q) (numbers_of q (refusing q x)) after (refusing_numbers q x) g
 
 -- the judge accepts an accepted sheet
-pub accepted_so : (b : List ℕ) → Accepted b → Promised (judge b) J.Accepted []
+pub accepted_so : (b : List ℕ) → Accepted b → Promised (judge b) (Ok tt) []
 unfolding reply values
 accepted_so b a = answered values (reply (judge b)) (give accepted []) (asked b (λ c. give accepted []) a) [] [] refl
 
 -- the probe's and the when phase's answers, where the list and the state are right
 module _ (b l : List ℕ) (q : ℕ) (fits : (rest : Class → Reply Answer) → placed b l q rest ≡ rest (class_of b)) where
-  pub probed_so : (r : Probed) → probed_as r ≡ probe (class_of b) (children_of l) q → Promised (probe_in b l q) (P.Given r) []
+  pub probed_so : (r : Probed) → probed_as r ≡ probe (class_of b) (children_of l) q → Promised (probe_in b l q) (Ok r) []
   unfolding reply values
   probed_so r e =
       answered_by values (reply (probe_in b l q)) (give (probed (probe (class_of b) (children_of l) q)) []) (fits (λ c. give (probed (probe c (children_of l) q)) [])) []
@@ -79,7 +72,7 @@ module _ (b l : List ℕ) (q : ℕ) (fits : (rest : Class → Reply Answer) → 
     unfolding reply
     placed_command r e = fits (λ c. told_as commanded (reply_command c l q m out)) ∙ ap (told_as commanded) e
 
-    pub over_so : 63 < m → (after : List ℕ) → after ≡ out → Promised (command_in b l q m out) (C.Refused AskedCommand) after
+    pub over_so : 63 < m → (after : List ℕ) → after ≡ out → Promised (command_in b l q m out) (Err AskedCommand) after
     over_so h after g = refused_so (command_in b l q m out) AskedCommand (placed_command (refuse 12) (command_over (class_of b) l q m out h)) after g
 
     pub commanded_so : m ≤ 63 → (r : CommandAnswer) (after : List ℕ) → CommandedSo (command_then_phase (class_of b) (children_of l) q m) out after r → Promised (command_in b l q m out) r after

@@ -7,11 +7,10 @@ use mathlib.Core.List.{List}
 use lib.Dec.{leb}
 use lib.ListN.{length}
 use borrow.Author.Tests.{leb-true}
+use Rattle.std.specs.Prelude.{Ok, Err}
 use Rattle.model.specs.Tree.{Class}
 use Rattle.model.specs.Replies.{Reply, give, check, told_as, numbers, buffer_after}
-use Rattle.model.specs.Answers.{write_numbers}
-use Rattle.model.specs.declared.WriteAnswer.{WriteAnswer}
-use Rattle.model.specs.declared.WriteAnswer.TheVariants as T
+use Rattle.model.specs.Answers.{write_numbers, WriteAnswer}
 use Rattle.model.proofs.Words.{clash}
 use Rattle.model.proofs.RefusalLaws.{not_zero}
 use Rattle.sheet.specs.Rules.{Accepted}
@@ -36,15 +35,15 @@ module _ (n : Named) (c : Class) (out final : List ℕ) where
   by_checks : (t u v : Bool) → names_right n c ≡ t → guards_few c ≡ u → leb (length text) (length out) ≡ v
       → (r : WriteAnswer) → write_numbers r ≡ numbers values (reply_by t u v) → final ≡ buffer_after (reply_by t u v) out → TextRight n c out final r
   unfolding values
-  by_checks true true true a b d (T.Written m) e f =
+  by_checks true true true a b d (Ok m) e f =
       let z : m ≡ length text = cc in (a, b, z, rw z (leb-true (length text) (length out) d), f)
-  by_checks true true true a b d (T.Refused x) e f = absurd (not_zero x (cc))
-  by_checks true true false a b d (T.Written m) e f = absurd (clash (cc))
-  by_checks true true false a b d (T.Refused x) e f = f
-  by_checks true false v a b d (T.Written m) e f = absurd (clash (cc))
-  by_checks true false v a b d (T.Refused x) e f = f
-  by_checks false u v a b d (T.Written m) e f = absurd (clash (cc))
-  by_checks false u v a b d (T.Refused x) e f = f
+  by_checks true true true a b d (Err x) e f = absurd (not_zero x (cc))
+  by_checks true true false a b d (Ok m) e f = absurd (clash (cc))
+  by_checks true true false a b d (Err x) e f = f
+  by_checks true false v a b d (Ok m) e f = absurd (clash (cc))
+  by_checks true false v a b d (Err x) e f = f
+  by_checks false u v a b d (Ok m) e f = absurd (clash (cc))
+  by_checks false u v a b d (Err x) e f = f
 
 pub text_right : (b : List ℕ) (n : Named) (out : List ℕ) → Accepted b → (r : WriteAnswer) (final : List ℕ) → Promised (text_of b n out) r final → TextRight n (class_of b) out final r
 unfolding reply reply_text

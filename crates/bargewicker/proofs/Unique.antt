@@ -1,14 +1,15 @@
 -- The promises of the face leave one answer, and one content of a lent buffer.
 -- Assumes nothing.
 use mathlib.Core.Path.{◌≡◌, sym, ◌∙◌, ap}
+use Rattle.std.specs.Prelude.{Ok, Err}
+use Rattle.model.specs.declared.Misread.TheVariants.{Refused, WrongWord}
+use Rattle.model.specs.Answers.{ReadAnswer}
 use Rattle.model.proofs.AnswerLaws.{same_judge, same_probe, same_phase_answer, same_command, same_loop, same_write}
 use Rattle.bargewicker.specs.Questions.{Question, judge, probe_in, phase_from, command_in, loop_with, text_of}
 use Rattle.bargewicker.specs.Promises.{AnswerTo, numbers_of}
 use Rattle.bargewicker.specs.Unique.{Unique}
 use Rattle.model.proofs.Words.{clash}
 use Rattle.model.proofs.RefusalLaws.{same_number}
-use Rattle.model.specs.declared.ReadAnswer.{ReadAnswer}
-use Rattle.model.specs.declared.ReadAnswer.TheVariants as R
 use Rattle.readings.proofs.ReadLaws.{reads}
 use Rattle.readings.specs.Promise.{reading_as, came}
 
@@ -23,15 +24,15 @@ told_apart (text_of b n out) r s e = same_write r s e
 
 -- what an answer to a class text says tells it
 pub reading_told : (r s : ReadAnswer) → reading_as r ≡ reading_as s → r ≡ s
-reading_told (R.Refused x) (R.Refused y) e = ap R.Refused (same_number x y (cc))
-reading_told (R.Refused x) (R.WrongWord q) e = absurd (clash (cc))
-reading_told (R.Refused x) (R.Read l n) e = absurd (clash (cc))
-reading_told (R.WrongWord p) (R.Refused y) e = absurd (clash (cc))
-reading_told (R.WrongWord p) (R.WrongWord q) e = ap R.WrongWord (cc)
-reading_told (R.WrongWord p) (R.Read l n) e = absurd (clash (cc))
-reading_told (R.Read k m) (R.Refused y) e = absurd (clash (cc))
-reading_told (R.Read k m) (R.WrongWord q) e = absurd (clash (cc))
-reading_told (R.Read k m) (R.Read l n) e = let f : k ≡ l = cc in let g : m ≡ n = cc in λ i. R.Read (f i) (g i)
+reading_told (Err (Refused x)) (Err (Refused y)) e = ap (λ x. Err (Refused x)) (same_number x y (cc))
+reading_told (Err (Refused x)) (Err (WrongWord q)) e = absurd (clash (cc))
+reading_told (Err (Refused x)) (Ok (l, n)) e = absurd (clash (cc))
+reading_told (Err (WrongWord p)) (Err (Refused y)) e = absurd (clash (cc))
+reading_told (Err (WrongWord p)) (Err (WrongWord q)) e = ap (λ n. Err (WrongWord n)) (cc)
+reading_told (Err (WrongWord p)) (Ok (l, n)) e = absurd (clash (cc))
+reading_told (Ok (k, m)) (Err (Refused y)) e = absurd (clash (cc))
+reading_told (Ok (k, m)) (Err (WrongWord q)) e = absurd (clash (cc))
+reading_told (Ok (k, m)) (Ok (l, n)) e = let f : k ≡ l = cc in let g : m ≡ n = cc in λ i. Ok (f i, g i)
 
 pub unique : Unique
 unique =

@@ -8,12 +8,13 @@ use mathlib.Core.Logic.{inl, inr}
 use lib.Dec.{leb}
 use lib.ListN.{length, take}
 use borrow.Author.Tests.{leb-true, le-leb}
+use Rattle.std.specs.Prelude.{Ok, Err}
+use Rattle.model.specs.declared.Misread.TheVariants.{Refused}
+use Rattle.model.specs.Answers.{ReadAnswer}
 use Rattle.model.specs.Words.{Bytes}
 use Rattle.model.specs.Tree.{Class}
 use Rattle.model.specs.Replies.{Reply, Answered as Replied}
 use Rattle.model.specs.declared.Refusal.TheVariants.{Room}
-use Rattle.model.specs.declared.ReadAnswer.{ReadAnswer}
-use Rattle.model.specs.declared.ReadAnswer.TheVariants as R
 use Rattle.model.proofs.Words.{and_left, and_right, clash}
 use Rattle.model.proofs.AnswerLaws.{same_judge, same_probe, same_phase_answer, same_command, same_loop, same_write}
 use Rattle.model.proofs.ReplyLaws.{answered_once}
@@ -118,7 +119,7 @@ module _ (b : List ℕ) (n : Named) (W : Writable b n) where
     by_room true e r sheet table h =
         record {
           with_room = λ _. (
-            reading_told r (R.Read (length (sheet_back b)) (length c.states)) (ap (λ o. o.reading) h ∙ rw (class_back, back.states)),
+            reading_told r (Ok (length (sheet_back b), length c.states)) (ap (λ o. o.reading) h ∙ rw (class_back, back.states)),
             ap (λ o. o.sheet) h ∙ rw class_back,
             ap (λ o. o.table) h ∙ rw back.table,
           );
@@ -127,7 +128,7 @@ module _ (b : List ℕ) (n : Named) (W : Writable b n) where
     by_room false e r sheet table h =
         record {
           with_room = λ large. absurd (let z : false ≡ true = sym e ∙ roomy_is large in clash (cc));
-          without = λ _. (reading_told r (R.Refused Room) (ap (λ o. o.reading) h), ap (λ o. o.sheet) h, ap (λ o. o.table) h);
+          without = λ _. (reading_told r (Err (Refused Room)) (ap (λ o. o.reading) h), ap (λ o. o.sheet) h, ap (λ o. o.table) h);
         }
 
     pub reads_back : q.text ≡ class_text n c → (r : ReadAnswer) (sheet table : List ℕ) → Answered q r sheet table → ReadsBack b n q r sheet table
@@ -158,9 +159,9 @@ module _ (b d : List ℕ) (x : Accepted b) (y : Accepted d) (same : class_of b �
       }
 
 -- a sheet that came from a text is the sheet of its class
-from_text : (q : Lent) (long states : ℕ) (sheet table : List ℕ) → Bytes q.lists.classes → Answered q (R.Read long states) sheet table → sheet_back (take long sheet) ≡ take long sheet
+from_text : (q : Lent) (long states : ℕ) (sheet table : List ℕ) → Bytes q.lists.classes → Answered q (Ok (long, states)) sheet table → sheet_back (take long sheet) ≡ take long sheet
 from_text q long states sheet table bytes a =
-    let (t, right) = reads.right q (came (R.Read long states) sheet table) bytes a long states refl in
+    let (t, right) = reads.right q (came (Ok (long, states)) sheet table) bytes a long states refl in
     ap sheet_of right.stands ∙ sym right.sheet
 
 one_tree : (b d : List ℕ) (n : Named) → Writable b n → Writable d n → class_text n (class_of b) ≡ class_text n (class_of d) → class_of b ≡ class_of d

@@ -2,7 +2,7 @@
 -- That each function of src/lib.rt meets its promise, for every input and with nothing asked of the caller, is what the
 -- check of this crate proves.
 -- Assumes nothing.
-use Rattle.std.specs.Prelude.{ℕ, ◌*◌, ◌<◌, ◌≤◌, ◌≡◌, true, false, List, [], ◌↔◌, ◌⊎◌, length, get_or, take, drop}
+use Rattle.std.specs.Prelude.{ℕ, ◌*◌, ◌<◌, ◌≤◌, ◌≡◌, true, false, List, [], ◌↔◌, ◌⊎◌, length, get_or, take, drop, Ok, Err}
 use Rattle.std.proofs.Math.Option.{none, some}
 use Rattle.model.specs.Words.{maybe}
 use Rattle.model.specs.Tree.{Child, everyone, any_in, atom, Referrer, move_to, run, stay, When, Part, Class}
@@ -12,7 +12,7 @@ use Rattle.model.specs.Running.{Sent, run_part, goes}
 use Rattle.model.specs.Node.{own_states, state_of, action_of, Probed, nothing, found, Ending, by_none, by_stay, by_do, next, sends, on_the_way}
 use Rattle.model.specs.Commands.{clause_for}
 use Rattle.model.specs.Refusals.{number_of}
-use Rattle.model.specs.Answers.{probed_as, ending_as}
+use Rattle.model.specs.Answers.{probed_as, ending_as, JudgeAnswer, ProbeAnswer, PhaseAnswer, CommandAnswer, LoopAnswer, WriteAnswer, ReadAnswer}
 use Rattle.model.specs.Replies.{written}
 use Rattle.model.specs.declared.Refusal.{Refusal}
 use Rattle.model.specs.declared.Refusal.TheVariants.{Room}
@@ -21,16 +21,6 @@ use Rattle.model.specs.declared.Phase.{Phase}
 use Rattle.model.specs.declared.Handling.{Handling}
 use Rattle.model.specs.declared.Handling.TheVariants.{Ignored, Handled}
 use Rattle.model.specs.declared.Loops.TheVariants.{Loop, Free}
-use Rattle.model.specs.declared.JudgeAnswer.{JudgeAnswer}
-use Rattle.model.specs.declared.JudgeAnswer.TheVariants as J
-use Rattle.model.specs.declared.ProbeAnswer.{ProbeAnswer}
-use Rattle.model.specs.declared.ProbeAnswer.TheVariants as P
-use Rattle.model.specs.declared.PhaseAnswer.{PhaseAnswer}
-use Rattle.model.specs.declared.PhaseAnswer.TheVariants as W
-use Rattle.model.specs.declared.CommandAnswer.{CommandAnswer}
-use Rattle.model.specs.declared.CommandAnswer.TheVariants as C
-use Rattle.model.specs.declared.LoopAnswer.{LoopAnswer}
-use Rattle.model.specs.declared.LoopAnswer.TheVariants as L
 use Rattle.model.specs.Words.{Bytes}
 use Rattle.sheet.specs.Rules.{Accepted}
 use Rattle.sheet.specs.Reading.{class_of}
@@ -39,10 +29,6 @@ use Rattle.commands.specs.Commands.{left_in, own_in}
 use Rattle.configurations.specs.Configurations.{name_count}
 use Rattle.configurations.specs.Demand.{AllEnd, FreeRight, LoopRight}
 use Rattle.loops.specs.LoopQuestion.{present_right}
-use Rattle.model.specs.declared.WriteAnswer.{WriteAnswer}
-use Rattle.model.specs.declared.WriteAnswer.TheVariants as T
-use Rattle.model.specs.declared.ReadAnswer.{ReadAnswer}
-use Rattle.model.specs.declared.ReadAnswer.TheVariants as R
 use Rattle.grammar.specs.Grammar.{Text}
 use Rattle.readings.specs.Readings.{Lent}
 use Rattle.readings.specs.Reads.{Rows, ReadRight}
@@ -95,8 +81,8 @@ ProbedRight c ks q (found i x) = First c ks q i x
 ProbedRight c ks q nothing = NoneTrue c ks q
 
 abbrev pub ProbeRight : Class → List Child → ℕ → ProbeAnswer → Type 0
-ProbeRight c ks q (P.Given p) = ProbedRight c ks q (probed_as p)
-ProbeRight c ks q (P.Refused x) = ⊥
+ProbeRight c ks q (Ok p) = ProbedRight c ks q (probed_as p)
+ProbeRight c ks q (Err x) = ⊥
 
 -- a move from state q to t is made: the first true clause is a MOVE_TO to t, or a DO whose clause, run with these children, reaches a
 -- move_to to t; t may be q itself
@@ -126,11 +112,11 @@ pub record Wrote (sent : List Sent) (n : ℕ) (out final : List ℕ) : Type 0 wh
 -- commands too; or loop, where no number of moves ends it, with S moves and the state after them, and nothing written; or 15, where it
 -- settles and there is no room for what was sent. When a move is made is `moving` below, what is sent `sending`
 abbrev pub PhaseRight : Class → List Child → ℕ → List ℕ → List ℕ → PhaseAnswer → Type 0
-PhaseRight c ks q out final (W.Given (Settled e s m n)) =
+PhaseRight c ks q out final (Ok (Settled e s m n)) =
     EndsAt (next c ks) q m s.0 × Settles c ks s.0 (ending_as e) × Wrote (on_the_way c ks m q) n out final
-PhaseRight c ks q out final (W.Given (Looping s m)) =
+PhaseRight c ks q out final (Ok (Looping s m)) =
     (Ends (next c ks) q → ⊥) × (m ≡ own_states c) × (after (next c ks) m q ≡ some s.0) × (final ≡ out)
-PhaseRight c ks q out final (W.Refused x) =
+PhaseRight c ks q out final (Err x) =
     (x ≡ Room) × (s : ℕ) × (m : ℕ) × EndsAt (next c ks) q m s × (length out < 3 * length (on_the_way c ks m q)) × (final ≡ out)
 
 -- the clause p runs: in state q it leaves the state s and sends these commands, n bytes
@@ -155,38 +141,38 @@ pub record BothRight (c : Class) (ks : List Child) (q m : ℕ) (out final : List
   pub handling : HandlingRight c ks q m h own
   pub room : 3 * length own ≤ length out
   pub front : take (3 * length own) final ≡ sent_bytes own
-  pub phase : PhaseRight c ks (left_in h).0 (behind own out) (behind own final) (W.Given p)
+  pub phase : PhaseRight c ks (left_in h).0 (behind own out) (behind own final) (Ok p)
 
 -- there is no room for the command's own sends, or behind them none for what the phase sends
 abbrev pub NoRoom : Class → List Child → List ℕ → List ℕ → Handling → List Sent → Type 0
 NoRoom c ks out final h own =
-    (length out < 3 * length own) ⊎ ((3 * length own ≤ length out) × PhaseRight c ks (left_in h).0 (behind own out) (behind own final) (W.Refused Room))
+    (length out < 3 * length own) ⊎ ((3 * length own ≤ length out) × PhaseRight c ks (left_in h).0 (behind own out) (behind own final) (Err Room))
 
 -- the request for a command: both parts, or 15
 abbrev pub CommandRight : Class → List Child → ℕ → ℕ → List ℕ → List ℕ → CommandAnswer → Type 0
-CommandRight c ks q m out final (C.Given h p) = BothRight c ks q m out final h p
-CommandRight c ks q m out final (C.Refused x) =
+CommandRight c ks q m out final (Ok (h, p)) = BothRight c ks q m out final h p
+CommandRight c ks q m out final (Err x) =
     (x ≡ Room) × (final ≡ out) × (h : Handling) × (own : List Sent) × HandlingRight c ks q m h own × NoRoom c ks out final h own
 
 -- the second part of the answer is the when phase's: what that answers from the state that was left
 pub record SamePhase (b l : List ℕ) (h : Handling) (p : Phase) (out final : List ℕ) : Type 0 where
   -- on the buffer behind the command's own bytes it is the same answer, and it leaves the same bytes
   pub behind_it : (r : PhaseAnswer) (last : List ℕ) → Promised (phase_from b l (left_in h).0 (drop (own_in h) out)) r last
-      → (r ≡ W.Given p) × (last ≡ drop (own_in h) final)
+      → (r ≡ Ok p) × (last ≡ drop (own_in h) final)
   -- on any buffer it is the same answer, unless there is no room
-  pub anywhere : (rest : List ℕ) (r : PhaseAnswer) (last : List ℕ) → Promised (phase_from b l (left_in h).0 rest) r last → (r ≡ W.Given p) ⊎ (r ≡ W.Refused Room)
+  pub anywhere : (rest : List ℕ) (r : PhaseAnswer) (last : List ℕ) → Promised (phase_from b l (left_in h).0 rest) r last → (r ≡ Ok p) ⊎ (r ≡ Err Room)
 
 -- DEMAND 3: free, with nothing written; or loop, with its list ks written
 abbrev pub LoopsRight : Class → ℕ → List ℕ → List ℕ → LoopAnswer → Type 0
-LoopsRight c present out final (L.Given (Free m)) = FreeRight c present m × (final ≡ out)
-LoopsRight c present out final (L.Given (Loop k q)) =
+LoopsRight c present out final (Ok (Free m)) = FreeRight c present m × (final ≡ out)
+LoopsRight c present out final (Ok (Loop k q)) =
     (ks : List Child) × LoopRight c present k q.0 ks × (final ≡ written (pairs ks) out)
-LoopsRight c present out final (L.Refused x) = ⊥
+LoopsRight c present out final (Err x) = ⊥
 
 pub record Demand3 (c : Class) (present : ℕ) (out final : List ℕ) (r : LoopAnswer) : Type 0 where
   -- "free" exactly if, for every child list of any length in which exactly the present classes occur,
   -- the when phase ends from every state
-  pub free_exactly_if : ((m : ℕ) × (r ≡ L.Given (Free m))) ↔ AllEnd c present
+  pub free_exactly_if : ((m : ℕ) × (r ≡ Ok (Free m))) ↔ AllEnd c present
   -- then a number of moves that no such phase exceeds, that one reaches, and that is below the number of states;
   -- otherwise such a list and a state from which the node returns to that state with the children unchanged
   pub right : LoopsRight c present out final r
@@ -201,9 +187,9 @@ pub record AskedLoop (b : List ℕ) (present : ℕ) (out : List ℕ) : Type 0 wh
 
 -- the text of the class c with its names, m bytes, is written at the front of the buffer; or nothing is, and why is said by demand 1
 abbrev pub TextRight : Named → Class → List ℕ → List ℕ → WriteAnswer → Type 0
-TextRight n c out final (T.Written m) =
+TextRight n c out final (Ok m) =
     (names_right n c ≡ true) × (guards_few c ≡ true) × (m ≡ length (class_text n c)) × (m ≤ length out) × (final ≡ written (class_text n c) out)
-TextRight n c out final (T.Refused x) = final ≡ out
+TextRight n c out final (Err x) = final ≡ out
 
 -- THE DEMANDS, of any answer r and any content `final` of the lent buffer after the call that meet the promise
 pub record Demands : Type 1 where
@@ -211,12 +197,12 @@ pub record Demands : Type 1 where
   -- that the others speak of
   pub demand1 : (q : Question) (r : AnswerTo q) (final : List ℕ) → Promised q r final → Demand1 q r final
   pub accepted : (b : List ℕ) (r : JudgeAnswer) (final : List ℕ) → Promised (judge b) r final
-      → (r ≡ J.Accepted) ↔ Accepted b
+      → (r ≡ Ok tt) ↔ Accepted b
   -- and every byte string offered as a class text or a list of names: each refusal exactly when its row says so, and it
   -- writes nothing; what is read is a sheet that is accepted, and all that the others say of it is said of the text's class
   pub reading : (q : Lent) (r : ReadAnswer) (sheet table : List ℕ) → Answered q r sheet table → Rows q (came r sheet table)
-  pub read : (q : Lent) (length states : ℕ) (sheet table : List ℕ) → Bytes q.lists.classes → Answered q (R.Read length states) sheet table
-      → (t : Text) × ReadRight q (came (R.Read length states) sheet table) length states t
+  pub read : (q : Lent) (length states : ℕ) (sheet table : List ℕ) → Bytes q.lists.classes → Answered q (Ok (length, states)) sheet table
+      → (t : Text) × ReadRight q (came (Ok (length, states)) sheet table) length states t
   -- and every class text that is written: what stands in the buffer, and what follows of it (specs/WrittenBack.antt)
   pub writing : (b : List ℕ) (n : Named) (out : List ℕ) → Accepted b → (r : WriteAnswer) (final : List ℕ)
       → Promised (text_of b n out) r final → TextRight n (class_of b) out final r
@@ -233,7 +219,7 @@ pub record Demands : Type 1 where
       → (r : CommandAnswer) (final : List ℕ) → Promised (command_in b l q m out) r final
       → CommandRight (class_of b) (children_of l) q m out final r
   pub phase_behind : (b l : List ℕ) (q m : ℕ) (out : List ℕ) → Asked b l q → m ≤ 63
-      → (h : Handling) (p : Phase) (final : List ℕ) → Promised (command_in b l q m out) (C.Given h p) final → SamePhase b l h p out final
+      → (h : Handling) (p : Phase) (final : List ℕ) → Promised (command_in b l q m out) (Ok (h, p)) final → SamePhase b l h p out final
   -- 3: for an accepted sheet, present child classes with at most 20 names together, and enough room
   pub demand3 : (b : List ℕ) (present : ℕ) (out : List ℕ) → AskedLoop b present out
       → (r : LoopAnswer) (final : List ℕ) → Promised (loop_with b present out) r final

@@ -1,21 +1,9 @@
 -- The promise of each function of the face. The functions' own contracts cite it: `Promised` is what src/lib.rt ensures.
 -- Assumes nothing.
-use Rattle.std.specs.Prelude.{ℕ, List}
-use Rattle.model.specs.Answers.{judge_numbers, probe_numbers, phase_numbers, command_numbers, loop_numbers, write_numbers}
+use Rattle.std.specs.Prelude.{ℕ, List, Err}
+use Rattle.model.specs.Answers.{judge_numbers, probe_numbers, phase_numbers, command_numbers, loop_numbers, write_numbers, JudgeAnswer, ProbeAnswer, PhaseAnswer, CommandAnswer, LoopAnswer, WriteAnswer}
 use Rattle.model.specs.Replies.{Answered}
 use Rattle.model.specs.declared.Refusal.{Refusal}
-use Rattle.model.specs.declared.JudgeAnswer.{JudgeAnswer}
-use Rattle.model.specs.declared.JudgeAnswer.TheVariants as J
-use Rattle.model.specs.declared.ProbeAnswer.{ProbeAnswer}
-use Rattle.model.specs.declared.ProbeAnswer.TheVariants as P
-use Rattle.model.specs.declared.PhaseAnswer.{PhaseAnswer}
-use Rattle.model.specs.declared.PhaseAnswer.TheVariants as W
-use Rattle.model.specs.declared.CommandAnswer.{CommandAnswer}
-use Rattle.model.specs.declared.CommandAnswer.TheVariants as C
-use Rattle.model.specs.declared.LoopAnswer.{LoopAnswer}
-use Rattle.model.specs.declared.LoopAnswer.TheVariants as L
-use Rattle.model.specs.declared.WriteAnswer.{WriteAnswer}
-use Rattle.model.specs.declared.WriteAnswer.TheVariants as T
 use Rattle.bargewicker.specs.Questions.{Question, judge, probe_in, phase_from, command_in, loop_with, text_of, reply, lent}
 use Rattle.bargewicker.specs.Numbers.{values}
 
@@ -30,12 +18,12 @@ AnswerTo (text_of b n out) = WriteAnswer
 
 -- the answer that refuses
 abbrev pub refusing : (q : Question) → Refusal → AnswerTo q
-refusing (judge b) x = J.Refused x
-refusing (probe_in b l q) x = P.Refused x
-refusing (phase_from b l q out) x = W.Refused x
-refusing (command_in b l q m out) x = C.Refused x
-refusing (loop_with b present out) x = L.Refused x
-refusing (text_of b n out) x = T.Refused x
+refusing (judge b) x = Err x
+refusing (probe_in b l q) x = Err x
+refusing (phase_from b l q out) x = Err x
+refusing (command_in b l q m out) x = Err x
+refusing (loop_with b present out) x = Err x
+refusing (text_of b n out) x = Err x
 
 -- the paper's numbers of an answer
 abbrev pub numbers_of : (q : Question) → AnswerTo q → List ℕ

@@ -1,11 +1,11 @@
 -- The promises of the face leave one answer, and one content of each lent buffer, for any input, refused calls too.
 -- Assumes nothing.
 use Rattle.std.specs.Prelude.{ℕ, ◌≡◌, List}
-use Rattle.model.specs.declared.ReadAnswer.{ReadAnswer}
 use Rattle.readings.specs.Readings.{Lent}
 use Rattle.readings.specs.Promise.{Answered}
 use Rattle.bargewicker.specs.Questions.{Question}
 use Rattle.bargewicker.specs.Promises.{AnswerTo, Promised}
+use Rattle.model.specs.Answers.{ReadAnswer}
 
 pub record Unique : Type 0 where
   -- of each of the six questions on a sheet: two answers, and two contents of the buffer after the call, are one

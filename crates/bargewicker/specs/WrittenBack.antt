@@ -1,19 +1,13 @@
 -- What follows of a class text that was written: it is read back with the same lists, as a sheet that has the same tree and so the same
 -- answer to every question; a sheet that came from a text comes back byte for byte; and no quantifier is lost.
 -- Assumes nothing.
-use Rattle.std.specs.Prelude.{ℕ, ◌*◌, ◌≤◌, ◌≡◌, true, List, [], ◌∷◌, ◌++◌, length, take}
+use Rattle.std.specs.Prelude.{ℕ, ◌*◌, ◌≤◌, ◌≡◌, true, List, [], ◌∷◌, ◌++◌, length, take, Ok, Err}
+use Rattle.model.specs.declared.Misread.TheVariants.{Refused}
+use Rattle.model.specs.Answers.{JudgeAnswer, ProbeAnswer, PhaseAnswer, CommandAnswer, LoopAnswer, WriteAnswer, ReadAnswer}
 use Rattle.model.specs.Words.{Bytes}
 use Rattle.model.specs.Tree.{Kind, Guard, atom, both, either, opposite, Class}
 use Rattle.model.specs.Replies.{written}
 use Rattle.model.specs.declared.Refusal.TheVariants.{Room}
-use Rattle.model.specs.declared.JudgeAnswer.{JudgeAnswer}
-use Rattle.model.specs.declared.ProbeAnswer.{ProbeAnswer}
-use Rattle.model.specs.declared.PhaseAnswer.{PhaseAnswer}
-use Rattle.model.specs.declared.CommandAnswer.{CommandAnswer}
-use Rattle.model.specs.declared.LoopAnswer.{LoopAnswer}
-use Rattle.model.specs.declared.WriteAnswer.{WriteAnswer}
-use Rattle.model.specs.declared.ReadAnswer.{ReadAnswer}
-use Rattle.model.specs.declared.ReadAnswer.TheVariants as R
 use Rattle.sheet.specs.Rules.{Accepted}
 use Rattle.sheet.specs.Reading.{class_of}
 use Rattle.encoding.specs.Encoding.{gathered, sheet_of}
@@ -45,8 +39,8 @@ Roomy b q = (length (sheet_back b) ≤ length q.sheet) × (32 * length (class_of
 -- at the heads of the buffers; without it is 15
 pub record ReadsBack (b : List ℕ) (n : Named) (q : Lent) (r : ReadAnswer) (sheet table : List ℕ) : Type 0 where
   pub with_room : Roomy b q
-      → (r ≡ R.Read (length (sheet_back b)) (length (class_of b).states)) × (sheet ≡ written (sheet_back b) q.sheet) × (table ≡ written n.own_states q.table)
-  pub without : (Roomy b q → ⊥) → (r ≡ R.Refused Room) × (sheet ≡ q.sheet) × (table ≡ q.table)
+      → (r ≡ Ok (length (sheet_back b), length (class_of b).states)) × (sheet ≡ written (sheet_back b) q.sheet) × (table ≡ written n.own_states q.table)
+  pub without : (Roomy b q → ⊥) → (r ≡ Err (Refused Room)) × (sheet ≡ q.sheet) × (table ≡ q.table)
 
 -- THE SAME ANSWERS: whatever is promised of the one sheet and of the other is the same verdict, the same numbers, the same buffer
 pub record SameAnswers (b d : List ℕ) : Type 0 where
@@ -79,7 +73,7 @@ pub record WrittenBack : Type 1 where
   pub same_tree : (b : List ℕ) (n : Named) → Writable b n → Accepted (sheet_back b) × (class_of (sheet_back b) ≡ class_of b)
   pub same_answers : (b : List ℕ) (n : Named) → Writable b n → SameAnswers b (sheet_back b)
   -- a sheet that came from a text is read back byte for byte
-  pub from_text : (q : Lent) (length states : ℕ) (sheet table : List ℕ) → Bytes q.lists.classes → Answered q (R.Read length states) sheet table
+  pub from_text : (q : Lent) (length states : ℕ) (sheet table : List ℕ) → Bytes q.lists.classes → Answered q (Ok (length, states)) sheet table
       → sheet_back (take length sheet) ≡ take length sheet
   -- sheets whose texts are the same have the same tree; so sheets that differ in an atom's kind have different texts
   pub one_tree : (b d : List ℕ) (n : Named) → Writable b n → Writable d n → class_text n (class_of b) ≡ class_text n (class_of d) → class_of b ≡ class_of d

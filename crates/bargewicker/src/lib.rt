@@ -18,43 +18,40 @@ use children::crews::occupy;
 use children::lists::list_ok;
 use commands::handle;
 use loops::asked::loop_with;
-use model::{
-    CommandAnswer, JudgeAnswer, LoopAnswer, OwnState, PhaseAnswer, ProbeAnswer, ReadAnswer,
-    Refusal, WriteAnswer,
-};
+use model::{Handling, Loops, Misread, OwnState, Phase, Probed, Refusal};
 use sheet::judging::{Places, Verdict};
 use writing::write_text;
 
 // Is this byte string a class sheet?
-pub fn judge(sheet: &[u8]) -> JudgeAnswer
+pub fn judge(sheet: &[u8]) -> Result<(), Refusal>
     ensures { Promised (judge sheet.now) result [] }
 {
     let verdict = sheet::judging::judge(sheet);
     match verdict {
-        Verdict::Accepted(_) => JudgeAnswer::Accepted,
-        Verdict::Refused(x) => JudgeAnswer::Refused(x),
+        Verdict::Accepted(_) => Ok(()),
+        Verdict::Refused(x) => Err(x),
     }
 }
 
 // Which clause of the state is the first whose guard these children make true?
-pub fn probe(sheet: &[u8], children: &[u8], state: u8) -> ProbeAnswer
+pub fn probe(sheet: &[u8], children: &[u8], state: u8) -> Result<Probed, Refusal>
     ensures { Promised (probe_in sheet.now children.now state) result [] }
 {
     let verdict = sheet::judging::judge(sheet);
     match verdict {
         Verdict::Accepted(p) => probe_in(sheet, p, children, state),
-        Verdict::Refused(x) => ProbeAnswer::Refused(x),
+        Verdict::Refused(x) => Err(x),
     }
 }
 
 // Where does the when phase from the state settle with these children, and what do its DOs send on the way, or does it loop?
-pub fn when_phase(sheet: &[u8], children: &[u8], state: u8, out: &mut [u8]) -> PhaseAnswer
+pub fn when_phase(sheet: &[u8], children: &[u8], state: u8, out: &mut [u8]) -> Result<Phase, Refusal>
     ensures { Promised (phase_from sheet.now children.now state out.old) result out.new }
 {
     let verdict = sheet::judging::judge(sheet);
     match verdict {
         Verdict::Accepted(p) => phase_from(sheet, p, children, state, out),
-        Verdict::Refused(x) => PhaseAnswer::Refused(x),
+        Verdict::Refused(x) => Err(x),
     }
 }
 
@@ -65,24 +62,24 @@ pub fn command(
     state: u8,
     command: u8,
     out: &mut [u8],
-) -> CommandAnswer
+) -> Result<(Handling, Phase), Refusal>
     ensures { Promised (command_in sheet.now children.now state command out.old) result out.new }
 {
     let verdict = sheet::judging::judge(sheet);
     match verdict {
         Verdict::Accepted(p) => command_in(sheet, p, children, state, command, out),
-        Verdict::Refused(x) => CommandAnswer::Refused(x),
+        Verdict::Refused(x) => Err(x),
     }
 }
 
 // Which states of children of the present classes can make the node loop, or how many moves does it make at most?
-pub fn loop_question(sheet: &[u8], present: u8, out: &mut [u8]) -> LoopAnswer
+pub fn loop_question(sheet: &[u8], present: u8, out: &mut [u8]) -> Result<Loops, Refusal>
     ensures { Promised (loop_with sheet.now present out.old) result out.new }
 {
     let verdict = sheet::judging::judge(sheet);
     match verdict {
         Verdict::Accepted(p) => loop_with(sheet, p, present, out),
-        Verdict::Refused(x) => LoopAnswer::Refused(x),
+        Verdict::Refused(x) => Err(x),
     }
 }
 
@@ -94,7 +91,7 @@ pub fn read_class(
     classes: &[u8],
     sheet: &mut [u8],
     table: &mut [u8],
-) -> ReadAnswer
+) -> Result<(usize, usize), Misread>
     ensures { Answered (asked text.now names.now commands.now classes.now sheet.old table.old) result sheet.new table.new }
 {
     reading::read_class(text, names, commands, classes, sheet, table)
@@ -109,7 +106,7 @@ pub fn write_class(
     commands: &[u8],
     classes: &[u8],
     out: &mut [u8],
-) -> WriteAnswer
+) -> Result<usize, Refusal>
     ensures { Promised (text_of sheet.now (named own_name.now own_states.now names.now commands.now classes.now) out.old) result out.new }
 {
     let verdict = sheet::judging::judge(sheet);
@@ -117,54 +114,41 @@ pub fn write_class(
         Verdict::Accepted(p) => write_text(
             sheet, p, own_name, own_states, names, commands, classes, out,
         ),
-        Verdict::Refused(x) => WriteAnswer::Refused(x),
+        Verdict::Refused(x) => Err(x),
     }
 }
 
 // What follows is asked of an accepted sheet: refusals 10 to 15 in their order, then the answer.
 
-// Whether the child list and the asked state can be taken.
-#[derive(Clone, Copy)]
-enum Placing {
-    Fits,
-    Refused(Refusal),
-}
-
 // 10 and 11: the child list and the asked state.
-fn place(sheet: &[u8], p: Places, children: &[u8], state: u8) -> Placing
+fn place(sheet: &[u8], p: Places, children: &[u8], state: u8) -> Result<(), Refusal>
     requires { Stands sheet.now p }
     ensures { placing_number result ≡ placed_refusal (class_of sheet.now) children.now state }
 {
     if !list_ok(body_of(sheet, p, CLASSES), children) {
-        return Placing::Refused(Refusal::ChildList);
+        return Err(Refusal::ChildList);
     }
     if state_count(sheet, p) <= (state as usize) {
-        return Placing::Refused(Refusal::AskedState);
+        return Err(Refusal::AskedState);
     }
-    Placing::Fits
+    Ok(())
 }
 
 // The probe.
-fn probe_in(sheet: &[u8], p: Places, children: &[u8], state: u8) -> ProbeAnswer
+fn probe_in(sheet: &[u8], p: Places, children: &[u8], state: u8) -> Result<Probed, Refusal>
     requires { Stands sheet.now p }
     ensures { Promised (probe_in sheet.now children.now state) result [] }
 {
-    let placing = place(sheet, p, children, state);
-    if let Placing::Refused(x) = placing {
-        return ProbeAnswer::Refused(x);
-    }
-    ProbeAnswer::Given(node::probing::probe(sheet, p, OwnState(state), occupy(children)))
+    place(sheet, p, children, state)?;
+    Ok(node::probing::probe(sheet, p, OwnState(state), occupy(children)))
 }
 
 // The when phase: what it comes to on the children of the list.
-fn phase_from(sheet: &[u8], p: Places, children: &[u8], state: u8, out: &mut [u8]) -> PhaseAnswer
+fn phase_from(sheet: &[u8], p: Places, children: &[u8], state: u8, out: &mut [u8]) -> Result<Phase, Refusal>
     requires { Stands sheet.now p }
     ensures { Promised (phase_from sheet.now children.now state out.old) result out.new }
 {
-    let placing = place(sheet, p, children, state);
-    if let Placing::Refused(x) = placing {
-        return PhaseAnswer::Refused(x);
-    }
+    place(sheet, p, children, state)?;
     phases::when_phase(sheet, p, children, occupy(children), OwnState(state), out)
 }
 
@@ -176,16 +160,13 @@ fn command_in(
     state: u8,
     command: u8,
     out: &mut [u8],
-) -> CommandAnswer
+) -> Result<(Handling, Phase), Refusal>
     requires { Stands sheet.now p }
     ensures { Promised (command_in sheet.now children.now state command out.old) result out.new }
 {
-    let placing = place(sheet, p, children, state);
-    if let Placing::Refused(x) = placing {
-        return CommandAnswer::Refused(x);
-    }
+    place(sheet, p, children, state)?;
     if 63 < command {
-        return CommandAnswer::Refused(Refusal::AskedCommand);
+        return Err(Refusal::AskedCommand);
     }
     handle(
         sheet,

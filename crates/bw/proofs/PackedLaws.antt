@@ -5,11 +5,13 @@ use native.Mathlib.Omega.{arith}
 use mathlib.Core.Path.{◌≡◌, sym, ◌∙◌, ap}
 use mathlib.Core.List.{List, [], ◌∷◌, ◌++◌}
 use borrow.Author.Tests.{ne_eqb}
+use Rattle.std.specs.Prelude.{Ok, Err}
+use Rattle.model.specs.declared.Misread.TheVariants.{Refused, WrongWord}
 use Rattle.model.specs.Refusals.{number_of}
 use Rattle.model.specs.declared.Refusal.{Refusal}
 use Rattle.model.specs.declared.Refusal.TheVariants.{SheetLength, Contents, EmptyNameSet, ClauseCounts, GuardLayout, GuardReach, Target, ActionClause, Statement, ChildList, AskedState, AskedCommand, PresentBit, NameCount, Room, Naming, Limit, WrittenGuards}
 use Rattle.model.specs.declared.OwnState.{OwnState}
-use Rattle.model.specs.Answers.{referrer_as}
+use Rattle.model.specs.Answers.{referrer_as, CommandAnswer, ReadAnswer}
 use Rattle.model.specs.declared.Referrer.{Referrer}
 use Rattle.model.specs.declared.Referrer.TheVariants.{MoveTo, Do, Stay}
 use Rattle.model.specs.Answers.{ending_as}
@@ -17,13 +19,10 @@ use Rattle.model.specs.declared.Ending.{Ending}
 use Rattle.model.specs.declared.Ending.TheVariants.{ByNone, ByStay, ByDo}
 use Rattle.model.specs.Values.{referrer_values, settled_values}
 use Rattle.model.specs.Answers.{handled_values, phased_values, command_numbers}
-use Rattle.model.specs.declared.CommandAnswer.{CommandAnswer}
 use Rattle.model.specs.declared.Handling.{Handling}
 use Rattle.model.specs.declared.Handling.TheVariants.{Ignored, Handled}
 use Rattle.model.specs.declared.Phase.{Phase}
 use Rattle.model.proofs.RefusalLaws.{not_zero}
-use Rattle.model.specs.declared.ReadAnswer.{ReadAnswer}
-use Rattle.model.specs.declared.ReadAnswer.TheVariants.{Refused, WrongWord, Read}
 use Rattle.readings.specs.Readings.{Lent, Outcome, reading_numbers}
 use Rattle.readings.specs.Promise.{reading_as, Answered}
 use Rattle.readings.proofs.ReadLaws.{reads}
@@ -145,15 +144,15 @@ one_of_both q before r s x y u v f g = let (e, h) = one_word_and_buffer q r s x 
 
 -- a class text: refused, 16 with its place, or read
 module _ (a : ReadAnswer) where
-  pub word_unread : (x : Refusal) (r : ℕ) → r ≡ number_of x → a ≡ Refused x → r ≡ packed_reading (reading_as a)
+  pub word_unread : (x : Refusal) (r : ℕ) → r ≡ number_of x → a ≡ Err (Refused x) → r ≡ packed_reading (reading_as a)
   unfolding packed_reading reading_numbers side_by_side
   word_unread x r e f = rw f (let l = small x in omega arith)
 
-  pub word_wrong : (p : ℕ) → a ≡ WrongWord p → 16 + p % 72057594037927936 * 256 ≡ packed_reading (reading_as a)
+  pub word_wrong : (p : ℕ) → a ≡ Err (WrongWord p) → 16 + p % 72057594037927936 * 256 ≡ packed_reading (reading_as a)
   unfolding packed_reading reading_numbers side_by_side
   word_wrong p f = rw f (omega arith)
 
-  pub word_read : (l s : ℕ) → a ≡ Read l s → s % 256 * 65536 + l % 4294967296 * 4294967296 ≡ packed_reading (reading_as a)
+  pub word_read : (l s : ℕ) → a ≡ Ok (l, s) → s % 256 * 65536 + l % 4294967296 * 4294967296 ≡ packed_reading (reading_as a)
   unfolding packed_reading reading_numbers side_by_side
   word_read l s f = rw f (omega arith)
 

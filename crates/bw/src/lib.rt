@@ -3,7 +3,7 @@
 // word holds is in specs/Packed.antt, of a class text that is read in specs/PackedReading.antt, and for C in include/bargewicker.h.
 #![tactic(auto)]
 
-ghost use Rattle.std.specs.Prelude.{◌≡◌, [], ◌∷◌};
+ghost use Rattle.std.specs.Prelude.{◌≡◌, [], ◌∷◌, Some};
 ghost use Rattle.model.specs.Values.{probed_values, settled_values};
 ghost use Rattle.model.specs.Answers.{probed_as, ending_as, phased_values, handled_values, looped_values, judge_numbers, probe_numbers, phase_numbers, command_numbers, loop_numbers, write_numbers};
 ghost use Rattle.bargewicker.specs.Questions.{judge, probe_in, phase_from, command_in, loop_with, text_of};
@@ -12,10 +12,7 @@ ghost use Rattle.readings.specs.Promise.{asked, reading_as};
 ghost use Rattle.bw.specs.Packed.{word, kinds_of_judge, kinds_of_probe, kinds_of_phase, kinds_of_command, kinds_of_loop, kinds_of_text, BothWords, Returned, ReturnedBoth};
 ghost use Rattle.bw.specs.PackedReading.{packed_reading, ReturnedReading};
 
-use model::{
-    CommandAnswer, Ending, Handling, JudgeAnswer, LoopAnswer, Loops, OwnState, Phase, PhaseAnswer,
-    ProbeAnswer, Probed, ReadAnswer, Referrer, WriteAnswer, refusal_number,
-};
+use model::{Ending, Handling, Loops, Misread, OwnState, Phase, Probed, Referrer, Refusal};
 
 // A value times one of these stands in its field of the word.
 const KIND: u64 = 0x100;
@@ -120,61 +117,61 @@ pub fn bw_write_class(
 }
 
 // The word of each answer: a refusal's number, or what is given.
-fn pack_judge(answer: JudgeAnswer) -> u64
+fn pack_judge(answer: Result<(), Refusal>) -> u64
     ensures { result ≡ word kinds_of_judge (judge_numbers answer) }
 {
     match answer {
-        JudgeAnswer::Refused(x) => refusal_number(x),
-        JudgeAnswer::Accepted => 0,
+        Err(x) => u64::from(x),
+        Ok(()) => 0,
     }
 }
 
-fn pack_probe(answer: ProbeAnswer) -> u64
+fn pack_probe(answer: Result<Probed, Refusal>) -> u64
     ensures { result ≡ word kinds_of_probe (probe_numbers answer) }
 {
     match answer {
-        ProbeAnswer::Refused(x) => refusal_number(x),
-        ProbeAnswer::Given(p) => pack_probed(p),
+        Err(x) => u64::from(x),
+        Ok(p) => pack_probed(p),
     }
 }
 
-fn pack_phase(answer: PhaseAnswer) -> u64
+fn pack_phase(answer: Result<Phase, Refusal>) -> u64
     ensures { result ≡ word kinds_of_phase (phase_numbers answer) }
 {
     match answer {
-        PhaseAnswer::Refused(x) => refusal_number(x),
-        PhaseAnswer::Given(p) => pack_phased(p),
+        Err(x) => u64::from(x),
+        Ok(p) => pack_phased(p),
     }
 }
 
 // A command has two: that of its handling, and the lent one of the phase behind it, which a refusal leaves as it was.
-fn pack_command(answer: CommandAnswer, phase: &mut [u64; 1]) -> u64
+fn pack_command(answer: Result<(Handling, Phase), Refusal>, phase: &mut [u64; 1]) -> u64
     ensures { BothWords (command_numbers answer) phase.old result phase.new }
 {
     match answer {
-        CommandAnswer::Refused(x) => refusal_number(x),
-        CommandAnswer::Given(h, p) => {
+        Err(x) => u64::from(x),
+        Ok((h, p)) => {
             *phase = [pack_phased(p)];
             pack_handling(h)
         }
     }
 }
 
-fn pack_loop(answer: LoopAnswer) -> u64
+fn pack_loop(answer: Result<Loops, Refusal>) -> u64
     ensures { result ≡ word kinds_of_loop (loop_numbers answer) }
 {
     match answer {
-        LoopAnswer::Refused(x) => refusal_number(x),
-        LoopAnswer::Given(l) => pack_loops(l),
+        Err(x) => u64::from(x),
+        Ok(l) => pack_loops(l),
     }
 }
 
-fn pack_text(answer: WriteAnswer) -> u64
+fn pack_text(answer: Result<usize, Refusal>) -> u64
     ensures { result ≡ word kinds_of_text (write_numbers answer) }
 {
     match answer {
-        WriteAnswer::Refused(x) => refusal_number(x),
-        WriteAnswer::Written(length) => (length as u64) % 4294967296 * LENGTH,
+        Err(x) => u64::from(x),
+        Ok(length) => (length as u64) % 4294967296 * LENGTH,
     }
 }
 
@@ -183,14 +180,14 @@ fn pack_probed(probed: Probed) -> u64
     ensures { result ≡ word kinds_of_probe (0 ∷ probed_values (probed_as probed)) }
 {
     match probed {
-        Probed::Nothing => 0,
-        Probed::Found(i, r) => pack_clause(i, r),
+        None => 0,
+        Some((i, r)) => pack_clause(i, r),
     }
 }
 
 // A clause: its number, its referrer and target.
 fn pack_clause(number: usize, referrer: Referrer) -> u64
-    ensures { result ≡ word kinds_of_probe (0 ∷ probed_values (probed_as (Probed.Found number referrer))) }
+    ensures { result ≡ word kinds_of_probe (0 ∷ probed_values (probed_as (Some (number, referrer)))) }
 {
     let clause = KIND + (number as u64) % 65536 * CLAUSE;
     match referrer {
@@ -243,13 +240,13 @@ fn pack_loops(loops: Loops) -> u64
 }
 
 // A class text: refused, 16 with its place, or read.
-fn pack_reading(answer: ReadAnswer) -> u64
+fn pack_reading(answer: Result<(usize, usize), Misread>) -> u64
     ensures { result ≡ packed_reading (reading_as answer) }
 {
     match answer {
-        ReadAnswer::Refused(x) => refusal_number(x),
-        ReadAnswer::WrongWord(place) => 16 + (place as u64) % 0x100000000000000 * PLACE,
-        ReadAnswer::Read(length, states) => (states as u64) % 256 * STATES
+        Err(Misread::Refused(x)) => u64::from(x),
+        Err(Misread::WrongWord(place)) => 16 + (place as u64) % 0x100000000000000 * PLACE,
+        Ok((length, states)) => (states as u64) % 256 * STATES
             + (length as u64) % 4294967296 * LENGTH,
     }
 }

@@ -7,15 +7,14 @@ use mathlib.Core.Path.{◌≡◌, sym, ◌∙◌, ap, subst}
 use mathlib.Core.List.{List, [], ◌++◌, append-nil}
 use lib.ListN.{length, take, drop, length-take, length-drop, length-append, take-append-drop, drop_of_length-le}
 use lib.Seq.{drop-append_seam}
+use Rattle.std.specs.Prelude.{Ok, Err}
+use Rattle.model.specs.Answers.{PhaseAnswer}
 use Rattle.model.specs.Node as Tree
 use Rattle.model.specs.Commands.{Commanded, command, left_by, command_then_phase}
 use Rattle.model.specs.declared.Refusal.{Refusal}
 use Rattle.model.specs.declared.Refusal.TheVariants.{Room}
 use Rattle.model.specs.declared.Handling.{Handling}
 use Rattle.model.specs.declared.Phase.{Phase}
-use Rattle.model.specs.declared.PhaseAnswer.{PhaseAnswer}
-use Rattle.model.specs.declared.PhaseAnswer.TheVariants as W
-use Rattle.model.specs.declared.CommandAnswer.TheVariants.{Given, Refused}
 use Rattle.sheet.specs.Reading.{class_of}
 use Rattle.children.specs.ChildList.{children_of}
 use Rattle.running.proofs.SendLaws.{sets_all}
@@ -54,7 +53,7 @@ module _ (b list : List ℕ) (q m : ℕ) (e e' : List ℕ) (counted : Handling) 
   unfolding command_then_phase
   own_count = en ∙ own_told (command (class_of b) (children_of list) q m) counted C.values_are
 
-  pub short_told : length out' < n → CommandedSo all out out' (Refused Room)
+  pub short_told : length out' < n → CommandedSo all out out' (Err Room)
   short_told l = short_so all out out' (omega (arith, own_count, ap length same)) same
 
   -- the phase that was asked on the buffer behind the command's own bytes
@@ -71,14 +70,14 @@ module _ (b list : List ℕ) (q m : ℕ) (e e' : List ℕ) (counted : Handling) 
     rest_is : rest ≡ drop (length (bytes_of_handling all.handling)) out
     rest_is = is_rest ∙ from_all n out' ∙ ap (drop n) same ∙ ap (λ (k : ℕ). drop k out) own_count
 
-    pub refused_told : (x : Refusal) → answer ≡ W.Refused x → CommandedSo all out (back_in n out' last) (Refused x)
+    pub refused_told : (x : Refusal) → answer ≡ Err x → CommandedSo all out (back_in n out' last) (Err x)
     refused_told x f =
         let (w, l, k) = refused_so all.phase rest last x (asked_behind f) in
         let z : back_in n out' last ≡ out = back_all n out' last ∙ ap (λ (y : List ℕ). take n out' ++ y) (k ∙ is_rest ∙ from_all n out') ∙ take-append-drop n out' ∙ same in
         refused_behind all out rest last room rest_is x (back_in n out' last) (asked_behind f) z
 
-    pub given_told : (p : Phase) → answer ≡ W.Given p → (front end : List ℕ) (h : Handling) → front ≡ take (n - 0) (back_in n out' last) → RunsCommand b list q m front end h
-        → CommandedSo all out (end ++ drop (n - 0) (back_in n out' last)) (Given h p)
+    pub given_told : (p : Phase) → answer ≡ Ok p → (front end : List ℕ) (h : Handling) → front ≡ take (n - 0) (back_in n out' last) → RunsCommand b list q m front end h
+        → CommandedSo all out (end ++ drop (n - 0) (back_in n out' last)) (Ok (h, p))
     unfolding command_then_phase
     given_told p f front end h is_front R =
         let bytes = bytes_of_handling (command (class_of b) (children_of list) q m) in

@@ -4,12 +4,11 @@ use Rattle.std.specs.Prelude.{ℕ, ◌+◌, ◌≡◌, List, eqb}
 use Rattle.std.proofs.lemmas.List.Edits.{sets}
 use Rattle.model.specs.Words.{maybe, least}
 use Rattle.model.specs.Commands as Tree
-use Rattle.model.specs.Answers.{handled_values, command_numbers}
+use Rattle.model.specs.Answers.{handled_values, command_numbers, CommandAnswer}
 use Rattle.model.specs.Replies.{Answered}
 use Rattle.model.specs.declared.OwnState.{OwnState}
 use Rattle.model.specs.declared.Handling.{Handling}
 use Rattle.model.specs.declared.Handling.TheVariants.{Ignored, Handled}
-use Rattle.model.specs.declared.CommandAnswer.{CommandAnswer}
 use Rattle.sheet.specs.Contents.{body}
 use Rattle.bodies.specs.Clauses.{first_action, action_count, action_command}
 use Rattle.sheet.specs.Reading.{class_of}

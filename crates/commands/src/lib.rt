@@ -12,7 +12,7 @@ ghost use Rattle.commands.specs.Commands.{first_action_for, left_in, own_in, Run
 use accepted::held::ACTIONS;
 use accepted::readers::{body_of, clauses_of};
 use bodies::clauses::{ACTION_CLAUSES, action_command};
-use model::{CommandAnswer, Handling, OwnState, PhaseAnswer, Refusal};
+use model::{Handling, OwnState, Phase, Refusal};
 use phases::when_phase;
 use running::{Moved, run_action};
 use sheet::judging::Places;
@@ -96,7 +96,7 @@ pub fn handle(
     q: OwnState,
     command: u8,
     out: &mut [u8],
-) -> CommandAnswer
+) -> Result<(Handling, Phase), Refusal>
     requires stands { Stands sheet.now p × Runnable sets list.now }
     requires q_bound { q.0 < in_fours (body sheet.now 1) }
     ensures { Handles sheet.now list.now q.0 command out.old out.new result }
@@ -104,14 +104,9 @@ pub fn handle(
     let counted = run_command(sheet, p, list, sets, q, command, &mut out[0..0]);
     let own = own_bytes(counted);
     if out.len() < own {
-        return CommandAnswer::Refused(Refusal::Room);
+        return Err(Refusal::Room);
     }
-    let behind = when_phase(sheet, p, list, sets, left_by(counted), &mut out[own..]);
-    match behind {
-        PhaseAnswer::Refused(x) => CommandAnswer::Refused(x),
-        PhaseAnswer::Given(phase) => {
-            let handling = run_command(sheet, p, list, sets, q, command, &mut out[0..own]);
-            CommandAnswer::Given(handling, phase)
-        }
-    }
+    let phase = when_phase(sheet, p, list, sets, left_by(counted), &mut out[own..])?;
+    let handling = run_command(sheet, p, list, sets, q, command, &mut out[0..own]);
+    Ok((handling, phase))
 }

@@ -7,8 +7,9 @@ use mathlib.Core.Bool.{Bool, true, false, cond}
 use mathlib.Core.List.{List, [], ◌∷◌, ◌++◌, append-nil, append_assoc}
 use lib.ListN.{length, take, get_or, length-append}
 use lib.Seq.{take_all}
+use Rattle.std.specs.Prelude.{Ok, Err}
 use Rattle.model.specs.Refusals.{number_of}
-use Rattle.model.specs.Answers.{phased_values, handled_values, loop_numbers}
+use Rattle.model.specs.Answers.{phased_values, handled_values, loop_numbers, LoopAnswer}
 use Rattle.model.specs.declared.Refusal.{Refusal}
 use Rattle.model.specs.declared.Ending.TheVariants.{ByNone, ByStay, ByDo}
 use Rattle.model.specs.declared.Phase.{Phase}
@@ -16,8 +17,6 @@ use Rattle.model.specs.declared.Phase.TheVariants.{Settled, Loops as Looping}
 use Rattle.model.specs.declared.Handling.{Handling}
 use Rattle.model.specs.declared.Handling.TheVariants.{Ignored, Handled}
 use Rattle.model.specs.declared.Loops.TheVariants.{Loop, Free}
-use Rattle.model.specs.declared.LoopAnswer.{LoopAnswer}
-use Rattle.model.specs.declared.LoopAnswer.TheVariants.{Refused, Given}
 use Rattle.model.proofs.RefusalLaws.{numbered_from_1}
 use Rattle.texts.specs.Texts.{Appended, decimal_text, number_text, hex_text}
 use Rattle.texts.proofs.Decimals.{decimal_length}
@@ -138,6 +137,6 @@ line_length ns list = go (is_loop ns)
 
 -- the line of a list of at most 20 children fits loopcheck's buffer
 pub line_fits : (a : LoopAnswer) (list : List ℕ) → length list ≤ 40 → length (loopcheck_line (loop_numbers a) list) ≤ 1024
-line_fits (Refused x) list h = omega (arith, line_length (number_of x ∷ []) list)
-line_fits (Given (Loop k q)) list h = omega (arith, line_length (0 ∷ 1 ∷ k ∷ q.0 ∷ []) list)
-line_fits (Given (Free m)) list h = omega (arith, line_length (0 ∷ 0 ∷ m ∷ []) list)
+line_fits (Err x) list h = omega (arith, line_length (number_of x ∷ []) list)
+line_fits (Ok (Loop k q)) list h = omega (arith, line_length (0 ∷ 1 ∷ k ∷ q.0 ∷ []) list)
+line_fits (Ok (Free m)) list h = omega (arith, line_length (0 ∷ 0 ∷ m ∷ []) list)

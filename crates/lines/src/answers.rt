@@ -7,10 +7,7 @@ ghost use Rattle.model.specs.Answers.{referrer_as, probed_as, ending_as, phased_
 ghost use Rattle.texts.specs.Texts.{Appended};
 ghost use Rattle.lines.specs.Lines.{bad_line, clause_word, refused_word, empty_field, string_field, said, judge_text, probe_text, phase_text, handled_text, command_text, loop_text, phase_line, command_line, loop_line};
 
-use model::{
-    CommandAnswer, Ending, Handling, JudgeAnswer, LoopAnswer, Loops, OwnState, Phase, PhaseAnswer,
-    ProbeAnswer, Probed, Referrer, Refusal, refusal_number,
-};
+use model::{Ending, Handling, Loops, OwnState, Phase, Probed, Referrer, Refusal};
 use texts::writing::{append_byte, append_bytes, append_hex, append_number};
 
 // A line that is no question.
@@ -56,7 +53,7 @@ fn say_four(out: &mut [u8], at: usize, word: &[u8], x: u64, y: u64, z: u64, last
 pub fn refused(x: Refusal, out: &mut [u8]) -> usize
     ensures { Appended out.old out.new 0 (said refused_word (number_of x ∷ [])) result }
 {
-    say_one(out, 0, b"refused", refusal_number(x))
+    say_one(out, 0, b"refused", u64::from(x))
 }
 
 // A further field with nothing to say: a space, then `-`.
@@ -78,12 +75,12 @@ pub fn append_string(out: &mut [u8], at: usize, bytes: &[u8]) -> usize
 }
 
 // accepted
-pub fn judge_line(answer: JudgeAnswer, out: &mut [u8]) -> usize
+pub fn judge_line(answer: Result<(), Refusal>, out: &mut [u8]) -> usize
     ensures { Appended out.old out.new 0 (judge_text (judge_numbers answer)) result }
 {
     match answer {
-        JudgeAnswer::Accepted => append_bytes(out, 0, b"accepted"),
-        JudgeAnswer::Refused(x) => refused(x, out),
+        Ok(()) => append_bytes(out, 0, b"accepted"),
+        Err(x) => refused(x, out),
     }
 }
 
@@ -103,18 +100,18 @@ fn probed_line(probed: Probed, out: &mut [u8]) -> usize
     ensures { Appended out.old out.new 0 (probe_text (0 ∷ probed_values (probed_as probed))) result }
 {
     match probed {
-        Probed::Nothing => append_bytes(out, 0, b"none"),
-        Probed::Found(i, referrer) => clause_line(i, referrer, out),
+        None => append_bytes(out, 0, b"none"),
+        Some((i, referrer)) => clause_line(i, referrer, out),
     }
 }
 
 // The line of the probe's answer.
-pub fn probe_line(answer: ProbeAnswer, out: &mut [u8]) -> usize
+pub fn probe_line(answer: Result<Probed, Refusal>, out: &mut [u8]) -> usize
     ensures { Appended out.old out.new 0 (probe_text (probe_numbers answer)) result }
 {
     match answer {
-        ProbeAnswer::Refused(x) => refused(x, out),
-        ProbeAnswer::Given(p) => probed_line(p, out),
+        Err(x) => refused(x, out),
+        Ok(p) => probed_line(p, out),
     }
 }
 
@@ -172,17 +169,17 @@ fn append_phase(out: &mut [u8], at: usize, phase: Phase) -> usize
 }
 
 // The text of the when phase's answer.
-fn phasing_line(answer: PhaseAnswer, out: &mut [u8]) -> usize
+fn phasing_line(answer: Result<Phase, Refusal>, out: &mut [u8]) -> usize
     ensures { Appended out.old out.new 0 (phase_text (phase_numbers answer)) result }
 {
     match answer {
-        PhaseAnswer::Refused(x) => refused(x, out),
-        PhaseAnswer::Given(p) => append_phase(out, 0, p),
+        Err(x) => refused(x, out),
+        Ok(p) => append_phase(out, 0, p),
     }
 }
 
 // The same, and the whole buffer
-pub fn phase_line(answer: PhaseAnswer, lent: &[u8], out: &mut [u8]) -> usize
+pub fn phase_line(answer: Result<Phase, Refusal>, lent: &[u8], out: &mut [u8]) -> usize
     ensures { Appended out.old out.new 0 (phase_line (phase_numbers answer) lent.now) result }
 {
     let end = phasing_line(answer, out);
@@ -209,17 +206,17 @@ fn given_line(handling: Handling, phase: Phase, out: &mut [u8]) -> usize
 }
 
 // The text of the command's answer.
-fn handling_line(answer: CommandAnswer, out: &mut [u8]) -> usize
+fn handling_line(answer: Result<(Handling, Phase), Refusal>, out: &mut [u8]) -> usize
     ensures { Appended out.old out.new 0 (command_text (command_numbers answer)) result }
 {
     match answer {
-        CommandAnswer::Refused(x) => refused(x, out),
-        CommandAnswer::Given(handling, phase) => given_line(handling, phase, out),
+        Err(x) => refused(x, out),
+        Ok((handling, phase)) => given_line(handling, phase, out),
     }
 }
 
 // The same, and the whole buffer
-pub fn command_line(answer: CommandAnswer, lent: &[u8], out: &mut [u8]) -> usize
+pub fn command_line(answer: Result<(Handling, Phase), Refusal>, lent: &[u8], out: &mut [u8]) -> usize
     ensures { Appended out.old out.new 0 (command_line (command_numbers answer) lent.now) result }
 {
     let end = handling_line(answer, out);
@@ -237,17 +234,17 @@ fn looped_line(loops: Loops, out: &mut [u8]) -> usize
 }
 
 // The text of the loop question's answer.
-pub fn looping_line(answer: LoopAnswer, out: &mut [u8]) -> usize
+pub fn looping_line(answer: Result<Loops, Refusal>, out: &mut [u8]) -> usize
     ensures { Appended out.old out.new 0 (loop_text (loop_numbers answer)) result }
 {
     match answer {
-        LoopAnswer::Refused(x) => refused(x, out),
-        LoopAnswer::Given(l) => looped_line(l, out),
+        Err(x) => refused(x, out),
+        Ok(l) => looped_line(l, out),
     }
 }
 
 // The same, and the whole buffer
-pub fn loop_line(answer: LoopAnswer, lent: &[u8], out: &mut [u8]) -> usize
+pub fn loop_line(answer: Result<Loops, Refusal>, lent: &[u8], out: &mut [u8]) -> usize
     ensures { Appended out.old out.new 0 (loop_line (loop_numbers answer) lent.now) result }
 {
     let end = looping_line(answer, out);

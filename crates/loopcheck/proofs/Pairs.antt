@@ -11,12 +11,11 @@ use lib.Dec.{eqb, leb}
 use lib.ListN.{length, take, drop}
 use lib.Seq.{take_at}
 use borrow.Author.Tests.{leb-true}
+use Rattle.std.specs.Prelude.{Ok, Err}
 use Rattle.model.specs.Words.{maybe, least, greatest}
 use Rattle.model.specs.Tree.{Class}
 use Rattle.model.specs.Replies.{Reply, refuse, give, check, numbers, buffer_after}
-use Rattle.model.specs.Answers.{loop_numbers}
-use Rattle.model.specs.declared.LoopAnswer.{LoopAnswer}
-use Rattle.model.specs.declared.LoopAnswer.TheVariants.{Refused, Given}
+use Rattle.model.specs.Answers.{loop_numbers, LoopAnswer}
 use Rattle.model.specs.declared.Loops.TheVariants.{Loop, Free}
 use Rattle.model.proofs.Words.{clash, least_some}
 use Rattle.sheet.specs.Rules.{refusal}
@@ -80,15 +79,15 @@ reply_paired b out =
 
 -- the code counts the set bits of the answer that has the reply's numbers
 told_paired : (a : LoopAnswer) (r : Reply Loops) → loop_numbers a ≡ numbers loops_values r → PairedReply r → Paired (bytes_of r) (children_in a)
-told_paired (Refused x) (refuse n) e p = record { size = refl; few = omega arith }
-told_paired (Refused x) (give (free m) bytes) e p = absurd (clash (cc))
-told_paired (Refused x) (give (loop j s ks) bytes) e p = absurd (clash (cc))
-told_paired (Given (Free i)) (refuse n) e p = absurd (clash (cc))
-told_paired (Given (Free i)) (give (free m) bytes) e p = p
-told_paired (Given (Free i)) (give (loop j s ks) bytes) e p = absurd (clash (cc))
-told_paired (Given (Loop k q)) (refuse n) e p = absurd (clash (cc))
-told_paired (Given (Loop k q)) (give (free m) bytes) e p = absurd (clash (cc))
-told_paired (Given (Loop k q)) (give (loop j s ks) bytes) e p = let z : k ≡ j = cc in rw z p
+told_paired (Err x) (refuse n) e p = record { size = refl; few = omega arith }
+told_paired (Err x) (give (free m) bytes) e p = absurd (clash (cc))
+told_paired (Err x) (give (loop j s ks) bytes) e p = absurd (clash (cc))
+told_paired (Ok (Free i)) (refuse n) e p = absurd (clash (cc))
+told_paired (Ok (Free i)) (give (free m) bytes) e p = p
+told_paired (Ok (Free i)) (give (loop j s ks) bytes) e p = absurd (clash (cc))
+told_paired (Ok (Loop k q)) (refuse n) e p = absurd (clash (cc))
+told_paired (Ok (Loop k q)) (give (free m) bytes) e p = absurd (clash (cc))
+told_paired (Ok (Loop k q)) (give (loop j s ks) bytes) e p = let z : k ≡ j = cc in rw z p
 
 pub paired : (b out : List ℕ) (a : LoopAnswer) → loop_numbers a ≡ numbers loops_values (loop_reply b out) → Paired (bytes_of (loop_reply b out)) (children_in a)
 paired b out a e = told_paired a (loop_reply b out) e (reply_paired b out)

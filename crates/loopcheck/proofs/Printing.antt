@@ -7,8 +7,7 @@ use mathlib.Core.List.{List, ◌++◌}
 use lib.ListN.{length, take, drop, take-append-drop, length-take}
 use lib.Seq.{drop_at, sets-eq}
 use Rattle.model.specs.Replies.{Answered}
-use Rattle.model.specs.Answers.{loop_numbers}
-use Rattle.model.specs.declared.LoopAnswer.{LoopAnswer}
+use Rattle.model.specs.Answers.{loop_numbers, LoopAnswer}
 use Rattle.loops.specs.LoopQuestion.{loops_values}
 use Rattle.texts.specs.Texts.{Appended}
 use Rattle.texts.proofs.Appending.{appended_reads}

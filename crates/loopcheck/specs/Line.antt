@@ -1,12 +1,11 @@
 -- The one line that loopcheck prints of a sheet: the loop question's answer with all K classes present.
 -- Assumes nothing.
-use Rattle.std.specs.Prelude.{ℕ, ◌-◌, ◌^◌, ◌≡◌, List, [], length, take, drop, replicate}
+use Rattle.std.specs.Prelude.{ℕ, ◌-◌, ◌^◌, ◌≡◌, List, [], length, take, drop, replicate, Ok, Err}
 use Rattle.std.specs.Int.Count.{ones}
+use Rattle.model.specs.Answers.{LoopAnswer}
 use Rattle.model.specs.Tree.{Class}
 use Rattle.model.specs.Crews.{child_classes}
 use Rattle.model.specs.Replies.{Reply, refuse, give, numbers}
-use Rattle.model.specs.declared.LoopAnswer.{LoopAnswer}
-use Rattle.model.specs.declared.LoopAnswer.TheVariants.{Refused, Given}
 use Rattle.model.specs.declared.Loops.TheVariants.{Loop, Free}
 use Rattle.sheet.specs.Asked.{on_sheet}
 use Rattle.configurations.specs.LoopAnswer.{Loops}
@@ -41,6 +40,6 @@ pub record Printed (b before after : List ℕ) (r : ℕ) : Type 0 where
 
 -- how many children the list of an answer has: one for each set bit of a loop's configuration
 abbrev pub children_in : LoopAnswer → ℕ
-children_in (Refused x) = 0
-children_in (Given (Free m)) = 0
-children_in (Given (Loop k q)) = ones k
+children_in (Err x) = 0
+children_in (Ok (Free m)) = 0
+children_in (Ok (Loop k q)) = ones k

@@ -8,7 +8,7 @@ ghost use Rattle.loopcheck.specs.Line.{loop_reply, children_in, Printed};
 use accepted::readers::class_count;
 use loopline::loopcheck_line;
 use loops::asked::loop_with;
-use model::{LoopAnswer, Loops};
+use model::{Loops, Refusal};
 use sheet::judging::{Verdict, judge};
 
 // A line has less than 1,024 bytes: a list has at most 20 children.
@@ -24,26 +24,23 @@ fn all_classes(k: usize) -> u8
 }
 
 // The loop question with all K classes present; the sheet is judged once.
-fn ask(sheet: &[u8], list: &mut [u8]) -> LoopAnswer
+fn ask(sheet: &[u8], list: &mut [u8]) -> Result<Loops, Refusal>
     ensures { Answered loops_values (loop_reply sheet.now list.old) list.old (loop_numbers result) list.new }
 {
     let verdict = judge(sheet);
     match verdict {
         Verdict::Accepted(p) => loop_with(sheet, p, all_classes(class_count(sheet, p)), list),
-        Verdict::Refused(x) => LoopAnswer::Refused(x),
+        Verdict::Refused(x) => Err(x),
     }
 }
 
 // How many children the list of an answer has: one for each set bit of a loop's configuration.
-fn children_in(answer: LoopAnswer) -> usize
+fn children_in(answer: Result<Loops, Refusal>) -> usize
     ensures { result ≡ children_in answer }
 {
-    let LoopAnswer::Given(found) = answer else {
-        return 0;
-    };
-    match found {
-        Loops::Loop(k, _) => u32::count_ones(k) as usize,
-        Loops::Free(_) => 0,
+    match answer {
+        Ok(Loops::Loop(k, _)) => k.count_ones() as usize,
+        _ => 0,
     }
 }
 

@@ -8,7 +8,7 @@ ghost use Rattle.texts.specs.Texts.{Appended};
 ghost use Rattle.lines.specs.Lines.{child_field, child_fields, is_loop, loopcheck_line};
 
 use lines::answers::looping_line;
-use model::{LoopAnswer, Loops};
+use model::{Loops, Refusal};
 use texts::writing::{append_byte, append_decimal, append_number, least};
 
 // A child as class:name, a space before it.
@@ -34,20 +34,14 @@ fn append_children(out: &mut [u8], at: usize, list: &[u8]) -> usize
 }
 
 // Whether the answer is a loop.
-fn is_loop(answer: LoopAnswer) -> bool
+fn is_loop(answer: Result<Loops, Refusal>) -> bool
     ensures { result ≡ is_loop (loop_numbers answer) }
 {
-    let LoopAnswer::Given(l) = answer else {
-        return false;
-    };
-    match l {
-        Loops::Loop(_, _) => true,
-        Loops::Free(_) => false,
-    }
+    matches!(answer, Ok(Loops::Loop(_, _)))
 }
 
 // refused NUMBER, free MOVES, or loop CONFIGURATION STATE with each child of the list, and a line feed
-pub fn loopcheck_line(answer: LoopAnswer, list: &[u8], out: &mut [u8]) -> usize
+pub fn loopcheck_line(answer: Result<Loops, Refusal>, list: &[u8], out: &mut [u8]) -> usize
     ensures { Appended out.old out.new 0 (loopcheck_line (loop_numbers answer) list.now) result }
 {
     let end = looping_line(answer, out);

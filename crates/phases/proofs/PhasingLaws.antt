@@ -5,10 +5,11 @@ use native.Mathlib.Omega.{arith}
 use mathlib.Core.Path.{◌≡◌, refl, sym, ◌∙◌, ap}
 use mathlib.Core.List.{List, ◌∷◌, ◌++◌}
 use lib.ListN.{length, get_or, take, drop, length-take}
+use Rattle.std.specs.Prelude.{Ok, Err}
 use Rattle.model.specs.Running.{Sent}
 use Rattle.model.specs.Node as Tree
 use Rattle.model.specs.Values.{settled_values}
-use Rattle.model.specs.Answers.{ending_as, phased_values, phase_numbers}
+use Rattle.model.specs.Answers.{ending_as, phased_values, phase_numbers, PhaseAnswer}
 use Rattle.model.specs.Replies.{written, Answered}
 use Rattle.model.specs.declared.OwnState.{OwnState}
 use Rattle.model.specs.Refusals.{number_of}
@@ -17,8 +18,6 @@ use Rattle.model.specs.declared.Refusal.TheVariants.{Room}
 use Rattle.model.specs.declared.Ending.{Ending}
 use Rattle.model.specs.declared.Phase.{Phase}
 use Rattle.model.specs.declared.Phase.TheVariants.{Settled, Loops as Looping}
-use Rattle.model.specs.declared.PhaseAnswer.{PhaseAnswer}
-use Rattle.model.specs.declared.PhaseAnswer.TheVariants.{Given, Refused}
 use Rattle.model.proofs.ReplyLaws.{answered_short, answered_room, room_refused, room_given}
 use Rattle.model.proofs.RefusalLaws.{same_number, not_zero}
 use Rattle.children.specs.ChildList.{sent_bytes}
@@ -31,14 +30,14 @@ abbrev pub PhasedSo : Tree.Phase → List ℕ → List ℕ → PhaseAnswer → T
 PhasedSo t out after r = Answered phasing_values (reply_phase t out) out (phase_numbers r) after
 
 -- 15: what is sent needs more than the buffer holds
-pub short_so : (t : Tree.Phase) (out after : List ℕ) → length out < length (bytes_of_phase t) → after ≡ out → PhasedSo t out after (Refused Room)
+pub short_so : (t : Tree.Phase) (out after : List ℕ) → length out < length (bytes_of_phase t) → after ≡ out → PhasedSo t out after (Err Room)
 unfolding reply_phase
 short_so t out after l same = answered_short phasing_values t (bytes_of_phase t) out after l same
 
 -- with room it is given and written
-pub given_so : (t : Tree.Phase) (out after : List ℕ) (r : Phase) → phased_values r ≡ phasing_values t → length (bytes_of_phase t) ≤ length out → after ≡ written (bytes_of_phase t) out → PhasedSo t out after (Given r)
+pub given_so : (t : Tree.Phase) (out after : List ℕ) (r : Phase) → phased_values r ≡ phasing_values t → length (bytes_of_phase t) ≤ length out → after ≡ written (bytes_of_phase t) out → PhasedSo t out after (Ok r)
 unfolding reply_phase
-given_so t out after r e l w = answered_room phasing_values t (bytes_of_phase t) out (phase_numbers (Given r)) after l (ap (◌∷◌ 0) e) w
+given_so t out after r e l w = answered_room phasing_values t (bytes_of_phase t) out (phase_numbers (Ok r)) after l (ap (◌∷◌ 0) e) w
 
 -- the fourth of the values is the number of bytes written
 settled_count : (e : Tree.Ending) (q m n : ℕ) → get_or (settled_values e q m n) 3 0 ≡ n
@@ -71,11 +70,11 @@ module _ (t : Tree.Phase) (before after : List ℕ) (e : Ending) (s : OwnState) 
       go (Tree.loops q k) h = absurd (omega (arith, settled_first (ending_as e) s.0 m n, ap (λ (l : List ℕ). get_or l 0 0) h))
 
   -- the first walk counted more than the buffer holds
-  pub short_told : (out final : List ℕ) → final ≡ out → length final < n → PhasedSo t out final (Refused Room)
+  pub short_told : (out final : List ℕ) → final ≡ out → length final < n → PhasedSo t out final (Err Room)
   short_told out final same l = short_so t out final (omega (arith, count_is, ap length same)) same
 
   -- a second walk on as much of the buffer as was counted
-  pub settled_told : (out out' room last : List ℕ) (r : Phase) → out' ≡ out → n ≤ length out' → Walked t room last r → room ≡ take (n - 0) out' → PhasedSo t out (last ++ drop (n - 0) out') (Given r)
+  pub settled_told : (out out' room last : List ℕ) (r : Phase) → out' ≡ out → n ≤ length out' → Walked t room last r → room ≡ take (n - 0) out' → PhasedSo t out (last ++ drop (n - 0) out') (Ok r)
   unfolding bytes_of_phase
   settled_told out out' room last r same l W er =
       let (d, q, k, sent, f) = is_settled in
@@ -87,22 +86,22 @@ module _ (t : Tree.Phase) (before after : List ℕ) (e : Ending) (s : OwnState) 
       (rw (z, same) (ap (λ (l : List ℕ). l ++ drop (length (bytes_of_phase t)) out) (c ∙ sym bytes_are)))
 
 -- a phase that loops writes nothing and needs no room
-pub loops_told : (t : Tree.Phase) (before after : List ℕ) (s : OwnState) (m : ℕ) → Walked t before after (Looping s m) → (out final : List ℕ) → final ≡ out → PhasedSo t out final (Given (Looping s m))
+pub loops_told : (t : Tree.Phase) (before after : List ℕ) (s : OwnState) (m : ℕ) → Walked t before after (Looping s m) → (out final : List ℕ) → final ≡ out → PhasedSo t out final (Ok (Looping s m))
 unfolding bytes_of_phase phasing_values sent_bytes
 loops_told t before after s m w out final same = go t w.numbers_are
   where
-    go : (x : Tree.Phase) → phased_values (Looping s m) ≡ phasing_values x → PhasedSo x out final (Given (Looping s m))
+    go : (x : Tree.Phase) → phased_values (Looping s m) ≡ phasing_values x → PhasedSo x out final (Ok (Looping s m))
     go (Tree.settled d q k sent) h = absurd (omega (arith, settled_first d q k (length (sent_bytes sent)), ap (λ (l : List ℕ). get_or l 0 0) h))
     go (Tree.loops q k) h = given_so (Tree.loops q k) out final (Looping s m) h (omega arith) same
 
 -- what an answer tells of the phase: refused, there was no room, and nothing was written; given, these are its values and its bytes
-pub refused_so : (t : Tree.Phase) (out after : List ℕ) (x : Refusal) → PhasedSo t out after (Refused x) → (x ≡ Room) × (length out < length (bytes_of_phase t)) × (after ≡ out)
+pub refused_so : (t : Tree.Phase) (out after : List ℕ) (x : Refusal) → PhasedSo t out after (Err x) → (x ≡ Room) × (length out < length (bytes_of_phase t)) × (after ≡ out)
 unfolding reply_phase
 refused_so t out after x h =
-    let (e, l, same) = room_refused phasing_values t (bytes_of_phase t) out (phase_numbers (Refused x)) after h (number_of x) (not_zero x) refl in
+    let (e, l, same) = room_refused phasing_values t (bytes_of_phase t) out (phase_numbers (Err x)) after h (number_of x) (not_zero x) refl in
     (same_number x Room e, l, same)
 
-pub phase_so : (t : Tree.Phase) (out after : List ℕ) (r : Phase) → PhasedSo t out after (Given r)
+pub phase_so : (t : Tree.Phase) (out after : List ℕ) (r : Phase) → PhasedSo t out after (Ok r)
     → (length (bytes_of_phase t) ≤ length out) × (phased_values r ≡ phasing_values t) × (after ≡ written (bytes_of_phase t) out)
 unfolding reply_phase
-phase_so t out after r h = room_given phasing_values t (bytes_of_phase t) out (phase_numbers (Given r)) after h (phased_values r) refl
+phase_so t out after r h = room_given phasing_values t (bytes_of_phase t) out (phase_numbers (Ok r)) after h (phased_values r) refl

@@ -6,6 +6,7 @@ use mathlib.Core.Path.{◌≡◌, refl, sym, ◌∙◌, ap, subst}
 use mathlib.Core.List.{List, []}
 use mathlib.Core.Option.{none, some}
 use lib.ListN.{length, get_or}
+use Rattle.std.specs.Prelude.{Some, None}
 use Rattle.model.specs.Tree.{Child, everyone, any_in, atom, move_to, run, stay, When, Part, Action, no_action}
 use Rattle.model.specs.Running as Tree
 use Rattle.model.specs.Running.{run_part}
@@ -13,7 +14,6 @@ use Rattle.model.specs.Node.{state_of, action_of, Probed, nothing, found, probe,
 use Rattle.model.specs.Sound.{ReferrerRight}
 use Rattle.model.specs.declared.OwnState.{OwnState}
 use Rattle.model.specs.declared.Ending.TheVariants.{ByNone, ByStay, ByDo}
-use Rattle.model.specs.declared.Probed.TheVariants.{Nothing, Found}
 use Rattle.model.specs.declared.Probed as Code
 use Rattle.model.specs.declared.Referrer.{Referrer}
 use Rattle.model.specs.declared.Referrer.TheVariants.{MoveTo, Do, Stay}
@@ -88,24 +88,24 @@ module _ (b : List ℕ) (right : Right b) (q : ℕ) where
   command_told a l = ap (λ (x : Action). x.command) (action_of_in (bodies b) q a no_action (state_inside b right q a l) l)
 
   -- what is known of a probe that found a DO
-  pub found_do : (sets : List ℕ) (ks : List Child) (r : Code.Probed) → Probes b sets q r → Crewed sets ks → (i a : ℕ) (x : Referrer) → r ≡ Found i x → x ≡ Do a → probe (class_of b) ks q ≡ found i (run a)
+  pub found_do : (sets : List ℕ) (ks : List Child) (r : Code.Probed) → Probes b sets q r → Crewed sets ks → (i a : ℕ) (x : Referrer) → r ≡ Some (i, x) → x ≡ Do a → probe (class_of b) ks q ≡ found i (run a)
   found_do sets ks r probes crewed i a x e f = sym (rw (e, f) at (probes ks crewed))
 
   -- the turn by each answer of the probe
   module _ (list sets : List ℕ) (crewed : Crewed sets (children_of list)) (r : Code.Probed) (probes : Probes b sets q r) (out : List ℕ) (at : ℕ) where
-    pub turns_none : r ≡ Nothing → Turns b list q out out at (record { turn = Stops ByNone; at = at })
+    pub turns_none : r ≡ None → Turns b list q out out at (record { turn = Stops ByNone; at = at })
     unfolding turn turn_for
     turns_none e = rw (sym (rw e at (probes (children_of list) crewed))) (turn_silent (stops by_none []) out at (record { turn = Stops ByNone; at = at }) refl refl refl)
 
-    pub turns_moves : (i : ℕ) (x : Referrer) → r ≡ Found i x → (t : OwnState) → x ≡ MoveTo t → Turns b list q out out at (record { turn = Moves t; at = at })
+    pub turns_moves : (i : ℕ) (x : Referrer) → r ≡ Some (i, x) → (t : OwnState) → x ≡ MoveTo t → Turns b list q out out at (record { turn = Moves t; at = at })
     unfolding turn turn_for
     turns_moves i x e t f = rw (sym (rw (e, f) at (probes (children_of list) crewed))) (turn_silent (moves t.0 []) out at (record { turn = Moves t; at = at }) refl refl refl)
 
-    pub turns_stay : (i : ℕ) (x : Referrer) → r ≡ Found i x → x ≡ Stay → Turns b list q out out at (record { turn = Stops ByStay; at = at })
+    pub turns_stay : (i : ℕ) (x : Referrer) → r ≡ Some (i, x) → x ≡ Stay → Turns b list q out out at (record { turn = Stops ByStay; at = at })
     unfolding turn turn_for
     turns_stay i x e f = rw (sym (rw (e, f) at (probes (children_of list) crewed))) (turn_silent (stops by_stay []) out at (record { turn = Stops ByStay; at = at }) refl refl refl)
 
-    pub turns_do : (i : ℕ) (x : Referrer) → r ≡ Found i x → (a : ℕ) → x ≡ Do a → (after : List ℕ) (t : Turned) → RunsDo b list q a out after at t → Turns b list q out after at t
+    pub turns_do : (i : ℕ) (x : Referrer) → r ≡ Some (i, x) → (a : ℕ) → x ≡ Do a → (after : List ℕ) (t : Turned) → RunsDo b list q a out after at t → Turns b list q out after at t
     unfolding turn turn_for
     turns_do i x e a f after t h = rw (found_do sets (children_of list) r probes crewed i a x e f) h
 

@@ -4,10 +4,9 @@ use Rattle.std.specs.Prelude.{ℕ, ◌≡◌, List}
 use Rattle.std.proofs.lemmas.List.Edits.{sets}
 use Rattle.model.specs.Running.{Sent, run_part}
 use Rattle.model.specs.Node as Tree
-use Rattle.model.specs.Answers.{ending_as, phased_values, phase_numbers}
+use Rattle.model.specs.Answers.{ending_as, phased_values, phase_numbers, PhaseAnswer}
 use Rattle.model.specs.Replies.{Answered}
 use Rattle.model.specs.declared.Phase.{Phase}
-use Rattle.model.specs.declared.PhaseAnswer.{PhaseAnswer}
 use Rattle.sheet.specs.Reading.{class_of}
 use Rattle.children.specs.ChildList.{children_of, sent_bytes}
 use Rattle.running.specs.Running.{Writes}

@@ -1,8 +1,8 @@
 -- The promises of the public functions of this floor leave one answer, and one content of a lent buffer.
 -- Assumes nothing.
 use Rattle.std.specs.Prelude.{ℕ, ◌≡◌, List}
+use Rattle.model.specs.Answers.{PhaseAnswer}
 use Rattle.model.specs.Node as Tree
-use Rattle.model.specs.declared.PhaseAnswer.{PhaseAnswer}
 use Rattle.phases.specs.Phases.{TurnIs, Phases}
 use Rattle.phases.specs.declared.Turned.{Turned}
 

@@ -14,7 +14,7 @@ ghost use Rattle.phases.specs.Phases.{RunsDo, Turns, Walks, Phases};
 use accepted::held::ACTIONS;
 use accepted::readers::{body_of, clauses_of, state_count};
 use bodies::clauses::{ACTION_CLAUSES, action_command};
-use model::{Ending, OwnState, Phase, PhaseAnswer, Probed, Referrer, Refusal};
+use model::{Ending, OwnState, Phase, Referrer, Refusal};
 use node::probing::probe;
 use running::{Moved, run_action};
 use sheet::judging::Places;
@@ -87,8 +87,7 @@ pub fn turn_from(
     requires at_bound { at < 900000000000 }
     ensures { Turns sheet.now list.now q.0 out.old out.new at result }
 {
-    let probed = probe(sheet, p, q, sets);
-    let Probed::Found(_, referrer) = probed else {
+    let Some((_, referrer)) = probe(sheet, p, q, sets) else {
         return Turned {
             turn: Turn::Stops(Ending::ByNone),
             at,
@@ -153,7 +152,7 @@ pub fn when_phase(
     sets: [u32; 8],
     q: OwnState,
     out: &mut [u8],
-) -> PhaseAnswer
+) -> Result<Phase, Refusal>
     requires stands { Stands sheet.now p × Runnable sets list.now }
     requires q_bound { q.0 < in_fours (body sheet.now 1) }
     ensures { Phases sheet.now list.now q.0 out.old out.new result }
@@ -162,10 +161,10 @@ pub fn when_phase(
     match counted {
         Phase::Settled(_, _, _, needed) => {
             if out.len() < needed {
-                return PhaseAnswer::Refused(Refusal::Room);
+                return Err(Refusal::Room);
             }
-            PhaseAnswer::Given(walk(sheet, p, list, sets, q, &mut out[0..needed]))
+            Ok(walk(sheet, p, list, sets, q, &mut out[0..needed]))
         }
-        Phase::Loops(_, _) => PhaseAnswer::Given(counted),
+        Phase::Loops(_, _) => Ok(counted),
     }
 }

@@ -7,20 +7,20 @@ ghost use Rattle.texts.specs.Texts.{Appended};
 ghost use Rattle.lines.specs.Lines.{write_text, write_line};
 
 use lines::answers::{append_string, refused, say_one};
-use model::WriteAnswer;
+use model::Refusal;
 
 // written LENGTH, or refused NUMBER
-fn written_line(answer: WriteAnswer, out: &mut [u8]) -> usize
+fn written_line(answer: Result<usize, Refusal>, out: &mut [u8]) -> usize
     ensures { Appended out.old out.new 0 (write_text (write_numbers answer)) result }
 {
     match answer {
-        WriteAnswer::Refused(x) => refused(x, out),
-        WriteAnswer::Written(length) => say_one(out, 0, b"written", length as u64),
+        Err(x) => refused(x, out),
+        Ok(length) => say_one(out, 0, b"written", length as u64),
     }
 }
 
 // The same, and the whole buffer
-pub fn write_line(answer: WriteAnswer, lent: &[u8], out: &mut [u8]) -> usize
+pub fn write_line(answer: Result<usize, Refusal>, lent: &[u8], out: &mut [u8]) -> usize
     ensures { Appended out.old out.new 0 (write_line (write_numbers answer) lent.now) result }
 {
     let end = written_line(answer, out);

@@ -7,11 +7,11 @@ use mathlib.Core.Bool.{Bool, true, false, not}
 use mathlib.Core.List.{List, [], ◌∷◌, ◌++◌}
 use lib.ListN.{length, drop}
 use lib.Seq.{sets-eq}
+use Rattle.std.specs.Prelude.{Ok, Err}
+use Rattle.model.specs.Answers.{WriteAnswer}
 use Rattle.model.specs.Tree.{Class}
 use Rattle.model.specs.Replies.{refuse}
 use Rattle.model.specs.declared.Refusal.TheVariants.{Room, Naming, WrittenGuards}
-use Rattle.model.specs.declared.WriteAnswer.{WriteAnswer}
-use Rattle.model.specs.declared.WriteAnswer.TheVariants.{Refused, Written}
 use Rattle.model.proofs.Words.{passed, not_passed}
 use Rattle.model.proofs.ReplyLaws.{answered_by, answered_room, answered_short}
 use Rattle.pen.specs.Writing.{last_place, Puts}
@@ -22,7 +22,7 @@ use Rattle.writing.specs.Writing.{Writes, WritesText}
 
 module _ (n : Named) (c : Class) (out : List ℕ) where
   -- 17, 19, or neither
-  pub unnamed : (b : Bool) → b ≡ names_right n c → not b ≡ true → Writes n c out out (Refused Naming)
+  pub unnamed : (b : Bool) → b ≡ names_right n c → not b ≡ true → Writes n c out out (Err Naming)
   unfolding reply_text
   unnamed b e f = let z : names_right n c ≡ false = not_passed e f in answered_by text_values (reply_text n c out) (refuse 17) (rw z) out (17 ∷ []) out refl refl
 
@@ -30,7 +30,7 @@ module _ (n : Named) (c : Class) (out : List ℕ) where
     named_so : names_right n c ≡ true
     named_so = passed e f
 
-    pub too_many : not d ≡ true → Writes n c out out (Refused WrittenGuards)
+    pub too_many : not d ≡ true → Writes n c out out (Err WrittenGuards)
     unfolding reply_text
     too_many h = let z : guards_few c ≡ false = not_passed g h in answered_by text_values (reply_text n c out) (refuse 19) (rw (named_so, z)) out (19 ∷ []) out refl refl
 
@@ -40,10 +40,10 @@ module _ (n : Named) (c : Class) (out : List ℕ) where
 
   -- the text was counted on no buffer: no place is past the last one
   module _ (few : length out < last_place) (none left : List ℕ) (needed : ℕ) (counted : Puts (class_text n c) none 0 left needed) where
-    pub no_room : length out < needed → (after : List ℕ) → after ≡ out → WritesText n c out after (Refused Room)
+    pub no_room : length out < needed → (after : List ℕ) → after ≡ out → WritesText n c out after (Err Room)
     no_room l after same = answered_short text_values (length (class_text n c)) (class_text n c) out after (omega (arith, counted.place)) same
 
-    pub with_room : needed ≤ length out → (after : List ℕ) (r : ℕ) → Puts (class_text n c) out 0 after r → WritesText n c out after (Written r)
+    pub with_room : needed ≤ length out → (after : List ℕ) (r : ℕ) → Puts (class_text n c) out 0 after r → WritesText n c out after (Ok r)
     with_room l after r put =
         let text = class_text n c in
         let k : 0 + length text ≤ length out = omega (arith, counted.place) in

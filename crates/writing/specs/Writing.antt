@@ -2,9 +2,8 @@
 -- Assumes nothing.
 use Rattle.std.specs.Prelude.{ℕ, List, length}
 use Rattle.model.specs.Tree.{Class}
-use Rattle.model.specs.Answers.{write_numbers}
+use Rattle.model.specs.Answers.{write_numbers, WriteAnswer}
 use Rattle.model.specs.Replies.{in_room, Answered}
-use Rattle.model.specs.declared.WriteAnswer.{WriteAnswer}
 use Rattle.writings.specs.Layout.{Named, class_text}
 use Rattle.writings.specs.Writings.{reply_text, text_values}
 

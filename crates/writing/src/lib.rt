@@ -8,7 +8,7 @@ ghost use Rattle.writing.specs.Writing.{Writes, WritesText};
 
 use classtext::put_text;
 use missing::{guards_few, names_right};
-use model::{Refusal, WriteAnswer};
+use model::Refusal;
 use sheet::judging::Places;
 
 // The text, or 15. It is written twice: to no buffer, which tells how long it is, and to the lent one.
@@ -21,7 +21,7 @@ fn write_within(
     commands: &[u8],
     classes: &[u8],
     out: &mut [u8],
-) -> WriteAnswer
+) -> Result<usize, Refusal>
     requires { Stands sheet.now p }
     ensures { WritesText (named own_name.now own_states.now names.now commands.now classes.now) (class_of sheet.now) out.old out.new result }
 {
@@ -30,12 +30,12 @@ fn write_within(
         sheet, p, own_name, own_states, names, commands, classes, &mut none, 0,
     );
     if out.len() < needed {
-        return WriteAnswer::Refused(Refusal::Room);
+        return Err(Refusal::Room);
     }
     let length = put_text(
         sheet, p, own_name, own_states, names, commands, classes, out, 0,
     );
-    WriteAnswer::Written(length)
+    Ok(length)
 }
 
 // 17 for the names, 19 for the guard records that would be written, then the text or 15.
@@ -48,15 +48,15 @@ pub fn write_text(
     commands: &[u8],
     classes: &[u8],
     out: &mut [u8],
-) -> WriteAnswer
+) -> Result<usize, Refusal>
     requires { Stands sheet.now p }
     ensures { Writes (named own_name.now own_states.now names.now commands.now classes.now) (class_of sheet.now) out.old out.new result }
 {
     if !names_right(sheet, p, own_name, own_states, names, commands, classes) {
-        return WriteAnswer::Refused(Refusal::Naming);
+        return Err(Refusal::Naming);
     }
     if !guards_few(sheet, p) {
-        return WriteAnswer::Refused(Refusal::WrittenGuards);
+        return Err(Refusal::WrittenGuards);
     }
     write_within(
         sheet, p, own_name, own_states, names, commands, classes, out,

@@ -3,11 +3,11 @@
 use Rattle.bw.proofs.PackedLaws.{word_unread, word_wrong, word_read}
 use Rattle.bw.proofs.pack_reading.Goals as goal
 
-pub returns-in-Refused : goal.returns-in-Refused
-returns-in-Refused c = word_unread _ c.in-Refused.x _ c.refusal_number.ensures c.in-Refused.is
+pub returns-in-Err-Refused : goal.returns-in-Err-Refused
+returns-in-Err-Refused c = word_unread _ c.in-Err-Refused.x _ c.from.ensures c.in-Err-Refused.is
 
-pub returns-in-WrongWord : goal.returns-in-WrongWord
-returns-in-WrongWord c = word_wrong _ _ c.in-WrongWord.is
+pub returns-in-Err-WrongWord : goal.returns-in-Err-WrongWord
+returns-in-Err-WrongWord c = word_wrong _ _ c.in-Err-WrongWord.is
 
-pub returns-in-Read : goal.returns-in-Read
-returns-in-Read c = word_read _ _ _ c.in-Read.is
+pub returns-in-Ok : goal.returns-in-Ok
+returns-in-Ok c = word_read _ _ _ c.in-Ok.is

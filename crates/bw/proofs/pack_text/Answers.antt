@@ -5,8 +5,8 @@ use Rattle.model.specs.Answers.{write_numbers}
 use Rattle.bw.proofs.PackedLaws.{word_refused, word_written}
 use Rattle.bw.proofs.pack_text.Goals as goal
 
-pub returns-in-Refused : goal.returns-in-Refused
-returns-in-Refused c = word_refused _ c.in-Refused.x _ c.refusal_number.ensures _ (ap write_numbers c.in-Refused.is)
+pub returns-in-Err : goal.returns-in-Err
+returns-in-Err c = word_refused _ c.in-Err.x _ c.from.ensures _ (ap write_numbers c.in-Err.is)
 
-pub returns-in-Written : goal.returns-in-Written
-returns-in-Written c = word_written _ _ (ap write_numbers c.in-Written.is)
+pub returns-in-Ok : goal.returns-in-Ok
+returns-in-Ok c = word_written _ _ (ap write_numbers c.in-Ok.is)

@@ -3,9 +3,9 @@
 use Rattle.lines.proofs.LineLaws.{told_refused}
 use Rattle.lines.proofs.answers.probe_line.Goals as goal
 
-pub returns-in-Refused : goal.returns-in-Refused
-returns-in-Refused c =
-    rw c.in-Refused.is (told_refused _ _ _ _ c.in-Refused.x c.refused.ensures)
+pub returns-in-Err : goal.returns-in-Err
+returns-in-Err c =
+    rw c.in-Err.is (told_refused _ _ _ _ c.in-Err.x c.refused.ensures)
 
-pub returns-in-Given : goal.returns-in-Given
-returns-in-Given c = rw c.in-Given.is c.probed_line.ensures
+pub returns-in-Ok : goal.returns-in-Ok
+returns-in-Ok c = rw c.in-Ok.is c.probed_line.ensures

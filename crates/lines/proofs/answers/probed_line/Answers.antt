@@ -3,10 +3,10 @@
 use Rattle.lines.specs.Lines.{said, text_of}
 use Rattle.lines.proofs.answers.probed_line.Goals as goal
 
-pub returns-in-Nothing : goal.returns-in-Nothing
+pub returns-in-None : goal.returns-in-None
 unfolding text_of said
-returns-in-Nothing c = rw c.in-Nothing.is c.append_bytes.ensures
+returns-in-None c = rw c.in-None.is c.append_bytes.ensures
 
-pub returns-in-Found : goal.returns-in-Found
+pub returns-in-Some : goal.returns-in-Some
 unfolding text_of
-returns-in-Found c = rw c.in-Found.is c.clause_line.ensures
+returns-in-Some c = rw c.in-Some.is c.clause_line.ensures
