@@ -12,7 +12,7 @@ use Rattle.model.proofs.Lists.{length_listed, get_or_listed}
 use Rattle.records.specs.Bytes.{u32}
 use Rattle.naming.specs.NameLists.{Lists, class_sets, records_in, record_right, none_twice, list_right, bits_named, lists_right, padded, number_in, listed_in}
 use Rattle.lists.specs.Lent.{lent, name_record, found_from, sets_in, Count}
-use Rattle.lists.specs.declared.Found.TheVariants.{At, Nowhere}
+use Rattle.std.specs.Prelude.{Some, None}
 use Rattle.lists.proofs.TableLaws.{left, left_all, found_at, found_nowhere}
 
 -- one list
@@ -71,10 +71,10 @@ module _ (a b c : List ℕ) where
 
 -- what the number of a name, or that it has none, tells of the list
 module _ (records : List (List ℕ)) (n : List ℕ) where
-  pub number_listed : (i : ℕ) → found_from 0 records (padded n) ≡ At i → (listed_in records n ≡ true) × (i ≡ number_in records n)
+  pub number_listed : (i : ℕ) → found_from 0 records (padded n) ≡ Some i → (listed_in records n ≡ true) × (i ≡ number_in records n)
   unfolding listed_in number_in
   number_listed i e = let (l, h) = found_at 0 records (padded n) i e in (l, omega arith)
 
-  pub number_missing : found_from 0 records (padded n) ≡ Nowhere → listed_in records n ≡ false
+  pub number_missing : found_from 0 records (padded n) ≡ None → listed_in records n ≡ false
   unfolding listed_in number_in
   number_missing e = found_nowhere 0 records (padded n) e

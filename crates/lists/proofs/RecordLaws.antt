@@ -67,20 +67,6 @@ module _ (r : List ℕ) (n : ℕ) (s : Reading r n) where
       step : take n r ++ characters (drop n r) ≡ take n r
       step = rw (drop_of_length-le r l) (simp append-nil)
 
--- zeros from a place on
-module _ (r : List ℕ) (i : ℕ) (l : i < length r) where
-  pub zeros_on : get_or r i 0 ≡ 0 → all_zero (drop i r) ≡ all_zero (drop (i + 1) r)
-  unfolding all_zero every
-  zeros_on h = rw (drop-cons r i 0 l, eq-eqb (get_or r i 0) 0 h, add-one i)
-
-  pub zeros_broken : (get_or r i 0 ≡ 0 → ⊥) → all_zero (drop i r) ≡ false
-  unfolding all_zero every
-  zeros_broken h = rw (drop-cons r i 0 l, ne_eqb (get_or r i 0) 0 h)
-
-pub zeros_over : (r : List ℕ) (i : ℕ) → length r ≤ i → all_zero (drop i r) ≡ true
-unfolding all_zero every
-zeros_over r i l = rw (drop_of_length-le r l)
-
 -- two strings are the same where both parts are
 pub same_append : (a b c d : List ℕ) → length a ≡ length b → same (a ++ c) (b ++ d) ≡ (same a b && same c d)
 unfolding same

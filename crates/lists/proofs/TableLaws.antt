@@ -12,7 +12,7 @@ use Rattle.model.specs.Words.{choose, every, some_in, listed}
 use Rattle.model.proofs.Words.{clash}
 use Rattle.grammar.specs.Words.{same, position}
 use Rattle.naming.specs.NameLists.{none_twice}
-use Rattle.lists.specs.declared.Found.TheVariants.{At, Nowhere}
+use Rattle.std.specs.Prelude.{Some, None}
 use Rattle.lists.specs.Lent.{found_from, behind}
 
 -- what is left of a table of n entries from entry i on
@@ -110,25 +110,25 @@ read_as x e w t f = ap (λ (y : List ℕ). same y w) (sym e) ∙ sym f
 
 -- the number of a word among the entries
 module _ (k : ℕ) (t : List ℕ) (ts : List (List ℕ)) (w : List ℕ) where
-  pub found_head : same t w ≡ true → found_from k (t ∷ ts) w ≡ At k
+  pub found_head : same t w ≡ true → found_from k (t ∷ ts) w ≡ Some k
   unfolding found_from position
-  found_head h = rw h (rw (lt-ltb 0 (suc (length ts)) (omega arith)) (ap At (let e : k + 0 ≡ k = omega arith in e)))
+  found_head h = rw h (rw (lt-ltb 0 (suc (length ts)) (omega arith)) (ap Some (let e : k + 0 ≡ k = omega arith in e)))
 
   pub found_tail : same t w ≡ false → found_from k (t ∷ ts) w ≡ found_from (k + 1) ts w
   unfolding found_from position
   found_tail h = rw h (go (ltb (position ts w) (length ts)) refl)
     where
       go : (b : Bool) → ltb (position ts w) (length ts) ≡ b
-          → choose (ltb (suc (position ts w)) (suc (length ts))) (λ _. At (k + suc (position ts w))) (λ _. Nowhere)
-          ≡ choose b (λ _. At (k + 1 + position ts w)) (λ _. Nowhere)
+          → choose (ltb (suc (position ts w)) (suc (length ts))) (λ _. Some (k + suc (position ts w))) (λ _. None)
+          ≡ choose b (λ _. Some (k + 1 + position ts w)) (λ _. None)
       go true e =
           let l = ltb-true (position ts w) (length ts) e in
-          rw (lt-ltb (suc (position ts w)) (suc (length ts)) (omega arith)) (ap At (let z : k + suc (position ts w) ≡ k + 1 + position ts w = omega arith in z))
+          rw (lt-ltb (suc (position ts w)) (suc (length ts)) (omega arith)) (ap Some (let z : k + suc (position ts w) ≡ k + 1 + position ts w = omega arith in z))
       go false e =
           let l = ltb-false (position ts w) (length ts) e in
           rw (le-ltb (suc (position ts w)) (suc (length ts)) (omega arith))
 
-pub found_none : (k : ℕ) (w : List ℕ) → found_from k [] w ≡ Nowhere
+pub found_none : (k : ℕ) (w : List ℕ) → found_from k [] w ≡ None
 unfolding found_from position
 found_none k w = refl
 
@@ -136,28 +136,28 @@ module _ (f : ℕ → List ℕ) (n i : ℕ) (w : List ℕ) where
   pub found_on : i < n → same (f i) w ≡ false → found_from i (left f n i) w ≡ found_from (i + 1) (left f n (i + 1)) w
   found_on l h = ap (λ (t : List (List ℕ)). found_from i t w) (left_cons f n i l) ∙ found_tail i (f i) (left f n (i + 1)) w h
 
-  pub found_here : i < n → same (f i) w ≡ true → found_from i (left f n i) w ≡ At i
+  pub found_here : i < n → same (f i) w ≡ true → found_from i (left f n i) w ≡ Some i
   found_here l h = ap (λ (t : List (List ℕ)). found_from i t w) (left_cons f n i l) ∙ found_head i (f i) (left f n (i + 1)) w h
 
-  pub found_over : n ≤ i → found_from i (left f n i) w ≡ Nowhere
+  pub found_over : n ≤ i → found_from i (left f n i) w ≡ None
   found_over l = ap (λ (t : List (List ℕ)). found_from i t w) (left_none f n i l) ∙ found_none i w
 
 -- what the answer tells
 module _ (k : ℕ) (ts : List (List ℕ)) (w : List ℕ) where
-  pub found_at : (i : ℕ) → found_from k ts w ≡ At i → (ltb (position ts w) (length ts) ≡ true) × (i ≡ k + position ts w)
+  pub found_at : (i : ℕ) → found_from k ts w ≡ Some i → (ltb (position ts w) (length ts) ≡ true) × (i ≡ k + position ts w)
   unfolding found_from
   found_at i e = go (ltb (position ts w) (length ts)) refl e
     where
-      go : (b : Bool) → ltb (position ts w) (length ts) ≡ b → choose b (λ _. At (k + position ts w)) (λ _. Nowhere) ≡ At i
+      go : (b : Bool) → ltb (position ts w) (length ts) ≡ b → choose b (λ _. Some (k + position ts w)) (λ _. None) ≡ Some i
           → (ltb (position ts w) (length ts) ≡ true) × (i ≡ k + position ts w)
       go true h e = (h, (cc))
       go false h e = absurd (clash (cc))
 
-  pub found_nowhere : found_from k ts w ≡ Nowhere → ltb (position ts w) (length ts) ≡ false
+  pub found_nowhere : found_from k ts w ≡ None → ltb (position ts w) (length ts) ≡ false
   unfolding found_from
   found_nowhere e = go (ltb (position ts w) (length ts)) refl e
     where
-      go : (b : Bool) → ltb (position ts w) (length ts) ≡ b → choose b (λ _. At (k + position ts w)) (λ _. Nowhere) ≡ Nowhere
+      go : (b : Bool) → ltb (position ts w) (length ts) ≡ b → choose b (λ _. Some (k + position ts w)) (λ _. None) ≡ None
           → ltb (position ts w) (length ts) ≡ false
       go true h e = absurd (clash (cc))
       go false h e = h

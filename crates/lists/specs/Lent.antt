@@ -1,12 +1,10 @@
 -- What the functions over the lent lists promise.
 -- Assumes nothing.
-use Rattle.std.specs.Prelude.{ℕ, ◌+◌, ◌-◌, ◌*◌, ◌/◌, ◌≤◌, ◌≡◌, Bool, List, eqb, ltb, length, take, drop}
+use Rattle.std.specs.Prelude.{ℕ, ◌+◌, ◌-◌, ◌*◌, ◌/◌, ◌≤◌, ◌≡◌, Bool, Option, Some, None, List, eqb, ltb, length, take, drop}
 use Rattle.model.specs.Words.{choose, every, listed}
 use Rattle.records.specs.Bytes.{u32}
 use Rattle.grammar.specs.Words.{position}
 use Rattle.naming.specs.NameLists.{Lists, characters}
-use Rattle.lists.specs.declared.Found.{Found}
-use Rattle.lists.specs.declared.Found.TheVariants.{At, Nowhere}
 
 -- the three lists, as they are lent
 abbrev pub lent : List ℕ → List ℕ → List ℕ → Lists
@@ -21,8 +19,8 @@ unfoldable pub behind : (ℕ → List ℕ) → ℕ → ℕ → List (List ℕ)
 behind f n i = listed (i + 1) (n - (i + 1)) f
 
 -- the number of the first entry that is the word, where the first of all has the number n; or that none is
-unfoldable pub found_from : ℕ → List (List ℕ) → List ℕ → Found
-found_from n entries word = choose (ltb (position entries word) (length entries)) (λ _. At (n + position entries word)) (λ _. Nowhere)
+unfoldable pub found_from : ℕ → List (List ℕ) → List ℕ → Option ℕ
+found_from n entries word = choose (ltb (position entries word) (length entries)) (λ _. Some (n + position entries word)) (λ _. None)
 
 -- the name sets of a list of child classes
 unfoldable pub sets_in : List ℕ → List ℕ

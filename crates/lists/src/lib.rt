@@ -10,26 +10,12 @@ ghost use Rattle.lists.specs.Lent.{name_record, found_from, sets_in, all_zero, C
 use kinds::is_same;
 use records::words::u32_at;
 
-// The number of a name in a list, or that it has none.
-#[derive(Clone, Copy)]
-pub enum Found {
-    At(usize),
-    Nowhere,
-}
-
 // Every byte of a record from a place on is zero.
 fn zeros_from(bytes: &[u8], at: usize) -> bool
     requires { at ≤ length bytes.now }
     ensures { result ≡ all_zero (drop at bytes.now) }
 {
-    let mut i = at;
-    while i < bytes.len() {
-        if bytes[i] != 0 {
-            return false;
-        }
-        i = i + 1;
-    }
-    true
+    bytes[at..].iter().all(|x| *x == 0)
 }
 
 // A record of 32 bytes is that of the word: the word's bytes, and zeros behind them.
@@ -69,14 +55,12 @@ pub fn name_record(list: &[u8], size: usize, i: usize) -> &[u8]
 pub fn name_length(bytes: &[u8]) -> usize
     ensures { Characters bytes.now result }
 {
-    let mut n = 0;
-    while n < bytes.len() {
-        if bytes[n] == 0 {
+    for (n, x) in bytes.iter().enumerate() {
+        if *x == 0 {
             return n;
         }
-        n = n + 1;
     }
-    n
+    bytes.len()
 }
 
 // The name set of child class i; none past the end of the list.
@@ -91,17 +75,15 @@ pub fn class_set(classes: &[u8], i: usize) -> u32
 }
 
 // The number of a name in a list of records of that many bytes.
-pub fn number_in(list: &[u8], size: usize, word: &[u8]) -> Found
+pub fn number_in(list: &[u8], size: usize, word: &[u8]) -> Option<usize>
     requires { 32 ≤ size }
     ensures { result ≡ found_from 0 (records_in size list.now) (padded word.now) }
 {
     let n = record_count(list, size);
-    let mut i = 0;
-    while i < n {
+    for i in 0..n {
         if record_is(name_record(list, size, i), word) {
-            return Found::At(i);
+            return Some(i);
         }
-        i = i + 1;
     }
-    Found::Nowhere
+    None
 }

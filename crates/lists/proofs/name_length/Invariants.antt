@@ -1,12 +1,7 @@
 -- `name_length` meets its contract. The loop's invariant, `Reading`: the first n bytes are characters, and those behind them are still to be read.
 -- Assumes nothing.
-use Prim.Native.Nat.{◌-◌}
-use lib.ListN.{length}
 use Rattle.lists.proofs.RecordLaws.{Reading}
 use Rattle.lists.proofs.name_length.Given as goal
 
 abbrev pub invariant-loop-n : goal.invariant-loop-n
 invariant-loop-n l = Reading l.bytes l.n
-
-abbrev pub decreases-loop-n : goal.decreases-loop-n
-decreases-loop-n l = length l.bytes - l.n

@@ -1,18 +1,23 @@
--- `zeros_from` meets its contract. The loop's invariant: the bytes from `at` on are zero where those from i on are.
+-- `zeros_from` meets its contract: what `all` ran through, the bytes from the place on, is what `all_zero` runs through.
 -- Assumes nothing.
-use mathlib.Core.Path.{refl, sym, ◌∙◌}
-use Rattle.lists.proofs.RecordLaws.{zeros_on, zeros_broken, zeros_over}
+use Prim.Native.Nat.{◌-◌}
+use native.Mathlib.Omega.{arith}
+use mathlib.Core.Path.{◌∙◌}
+use lib.Dec.{eqb}
+use lib.ListN.{length, drop, length-drop}
+use lib.Seq.{take_all}
 use borrow.Author.Rules.{rules}
+use borrow.Author.Tests.{tests}
+use Rattle.std.proofs.lemmas.Iterator.{YieldsList-from_slice}
+use Rattle.std.proofs.lemmas.Iterator.Search.{all_from_yields_List}
+use Rattle.model.proofs.Runs.{all_every}
+use Rattle.lists.specs.Lent.{all_zero}
 use Rattle.lists.proofs.zeros_from.Goals as goal
 
-pub loop-i-init : goal.loop-i-init
-loop-i-init c = (search rules, refl)
-
-pub returns-then-bytes-i-ne0 : goal.returns-then-bytes-i-ne0
-returns-then-bytes-i-ne0 c = sym (c.loop-i.invariant.1 ∙ zeros_broken _ _ c.loop-i-test.true c.if-bytes-i-ne0.true)
-
-pub loop-i-preserved : goal.loop-i-preserved
-loop-i-preserved c = (search rules, c.loop-i.invariant.1 ∙ zeros_on _ _ c.loop-i-test.true c.if-bytes-i-ne0.false)
-
 pub returns : goal.returns
-returns c = sym (c.loop-i.invariant.1 ∙ zeros_over _ _ c.loop-i-test.false)
+unfolding all_zero
+returns c =
+    let bytes = c.args.bytes.now in
+    let e = c.iter.ensures.rest ∙ take_all (length bytes - c.args.at) (drop c.args.at bytes) (simp length-drop (omega arith)) in
+    all_from_yields_List (λ x. eqb x 0) _ _ _ c.all.ensures.ran (YieldsList-from_slice (drop c.args.at bytes) e) (λ x b q k. search (rules, tests))
+    ∙ all_every (λ x. eqb x 0) (drop c.args.at bytes)
