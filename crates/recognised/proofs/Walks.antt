@@ -10,6 +10,8 @@ use lib.Dec.{eqb}
 use lib.ListN.{length}
 use borrow.Author.Tests.{eqb-true}
 use Rattle.model.specs.Words.{choose}
+use Rattle.std.specs.Prelude.{Some, None, Ok, Err}
+use Rattle.std.specs.Prelude as std
 use Rattle.grammar.specs.Words.{Word, words}
 use Rattle.grammar.specs.Kinds.{kind_of}
 use Rattle.grammar.specs.Machine.{At, start, moves, next}
@@ -21,13 +23,10 @@ use Rattle.words.proofs.Turns.{kind_as}
 use Rattle.steps.specs.declared.Want.{Want}
 use Rattle.steps.specs.declared.Want.TheVariants.{Start}
 use Rattle.steps.specs.declared.Open.{Open}
-use Rattle.steps.specs.declared.Go.{Go}
-use Rattle.steps.specs.declared.Go.TheVariants.{To, Stop}
 use Rattle.steps.specs.Turns.{turns}
 use Rattle.steps.specs.Going.{going}
 use Rattle.steps.specs.Opening.{Ifs, had_else, open_after, ifs_after}
 use Rattle.steps.proofs.Simulated.{want_of, opened, Opened, opened_after, by_number, by_number_after, Leads, step_leads}
-use Rattle.recognised.specs.declared.Found.TheVariants.{Wrong, Fine}
 use Rattle.recognised.specs.Recognised.{Recognised}
 use Rattle.recognised.specs.Watching.{Along, ifs_along, begun_at, Marks, Noted, HadElse}
 use Rattle.recognised.proofs.Watches.{word_of, word_then, word_last, along_one, ifs_one, counted_up, marks_none, marks_on}
@@ -63,7 +62,7 @@ walk_none text marks =
 
 -- at the next word, with what the code has found of it
 module _ (text : List ℕ) (marks : List Bool) (want : Want) (o : Open) (from at : ℕ) (W : Walked text marks want o from at) (kind start end : ℕ) (N : Next text at kind start end) (had : Bool)
-    (H : HadElse text from at o.ifs kind marks had) (r : Go) (e : r ≡ going (turns want o.brackets o.nested o.ifs had) kind) where
+    (H : HadElse text from at o.ifs kind marks had) (r : std.Option Want) (e : r ≡ going (turns want o.brackets o.nested o.ifs had) kind) where
   abbrev w : Word
   w = word_of text kind start end
 
@@ -79,7 +78,7 @@ module _ (text : List ℕ) (marks : List Bool) (want : Want) (o : Open) (from at
 
   told : Leads (opened W.place) kind r (next (moves W.place) w.token)
   told =
-      subst (λ (g : Go). Leads (opened W.place) kind g (next (moves W.place) w.token)) (sym e)
+      subst (λ (g : std.Option Want). Leads (opened W.place) kind g (next (moves W.place) w.token)) (sym e)
       (subst (λ (k : ℕ). Leads (opened W.place) k (going (turns want o.brackets o.nested o.ifs had) k) (next (moves W.place) w.token)) kind_is
       (step_leads W.place w.token want o had W.wanted W.open_is right_else))
 
@@ -87,7 +86,7 @@ module _ (text : List ℕ) (marks : List Bool) (want : Want) (o : Open) (from at
   moves_on h = let a = N.onward in let b = N.moves h in omega (arith, a, b)
 
   -- the word cannot stand
-  pub walk_stop : r ≡ Stop → Recognised text (Wrong start)
+  pub walk_stop : r ≡ None → Recognised text (Err start)
   unfolding Recognised Leads
   walk_stop f = go (next (moves W.place) w.token) refl told
     where
@@ -99,16 +98,16 @@ module _ (text : List ℕ) (marks : List Bool) (want : Want) (o : Open) (from at
   abbrev Onward : Want → Type 0
   Onward v = (t : At) × (next (moves W.place) w.token ≡ some t) × (want_of t ≡ v) × (opened t ≡ opened_after (opened W.place) kind)
 
-  onward : (v : Want) → r ≡ To v → Onward v
+  onward : (v : Want) → r ≡ Some v → Onward v
   unfolding Leads
   onward v f = go (next (moves W.place) w.token) refl told
     where
       go : (a : Option At) → next (moves W.place) w.token ≡ a → Leads (opened W.place) kind r a → Onward v
       go none p l = absurd (clash (cc (l, f)))
-      go (some t) p l = let q : To (want_of t) ≡ To v = sym l.0 ∙ f in (t, p, (cc), l.1)
+      go (some t) p l = let q : Some (want_of t) ≡ Some v = sym l.0 ∙ f in (t, p, (cc), l.1)
 
   -- the end can stand: the text is read
-  pub walk_fine : (v : Want) → r ≡ To v → kind ≡ 26 → Recognised text Fine
+  pub walk_fine : (v : Want) → r ≡ Some v → kind ≡ 26 → Recognised text (Ok tt)
   unfolding Recognised
   walk_fine v f h =
       let (t, p, q, c) = onward v f in
@@ -116,7 +115,7 @@ module _ (text : List ℕ) (marks : List Bool) (want : Want) (o : Open) (from at
       reached_end text t (reached_next text w [] W.place t s p)
 
   -- another word can stand
-  module _ (v : Want) (o' : Open) (from' : ℕ) (f : r ≡ To v) (h : kind ≡ 26 → ⊥) (g : o' ≡ open_after o kind) (b : from' ≡ begun_at from end o'.ifs) (marks' : List Bool)
+  module _ (v : Want) (o' : Open) (from' : ℕ) (f : r ≡ Some v) (h : kind ≡ 26 → ⊥) (g : o' ≡ open_after o kind) (b : from' ≡ begun_at from end o'.ifs) (marks' : List Bool)
       (n : Noted marks o'.ifs kind marks') where
     record Since (t : At) : Type 0 where
       since : List Word

@@ -5,14 +5,7 @@ ghost use Rattle.std.specs.Prelude.{◌≡◌, length};
 ghost use Rattle.recognised.specs.Watching.{seen_after, begun_at, HadElse, Watched, Noted};
 ghost use Rattle.recognised.specs.Recognised.{Recognised};
 
-use steps::{Go, Open, Want};
-
-// Where the text goes wrong, or that it does not.
-#[derive(Clone, Copy)]
-pub enum Found {
-    Wrong(usize),
-    Fine,
-}
+use steps::{Open, Want};
 
 // Whether the if at the watched level has had its else, behind a word of that kind, where so many ifs are open.
 fn seen_after(seen: bool, level: usize, watched: usize, kind: u8) -> bool
@@ -87,8 +80,8 @@ fn begun(from: usize, at: usize, ifs: usize) -> usize
     from
 }
 
-// The first word that cannot stand.
-pub fn first_wrong(text: &[u8]) -> Found
+// Whether it is a text of the grammar; if it is none, where its first word stands that cannot.
+pub fn first_wrong(text: &[u8]) -> Result<(), usize>
     ensures { Recognised text.now result }
 {
     let mut marks = no_marks();
@@ -104,21 +97,16 @@ pub fn first_wrong(text: &[u8]) -> Found
         let word = words::next_word(text, at);
         let kind = word.kind;
         let had = had_else(text, from, at, opened.ifs, kind, &marks);
-        let go = steps::step(want, opened, had, kind);
-        match go {
-            Go::Stop => {
-                return Found::Wrong(word.start);
-            }
-            Go::To(next) => {
-                if kind == kinds::END {
-                    return Found::Fine;
-                }
-                want = next;
-                opened = steps::behind(opened, kind);
-                note(&mut marks, opened.ifs, kind);
-                at = word.end;
-                from = begun(from, at, opened.ifs);
-            }
+        let Some(next) = steps::step(want, opened, had, kind) else {
+            return Err(word.start);
+        };
+        if kind == kinds::END {
+            return Ok(());
         }
+        want = next;
+        opened = steps::behind(opened, kind);
+        note(&mut marks, opened.ifs, kind);
+        at = word.end;
+        from = begun(from, at, opened.ifs);
     }
 }

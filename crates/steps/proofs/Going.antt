@@ -7,57 +7,56 @@ use mathlib.Core.Bool.{Bool, true, false}
 use lib.Dec.{eqb}
 use borrow.Author.Tests.{eq-eqb, ne_eqb}
 use Rattle.grammar.proofs.Machine.{clash}
+use Rattle.std.specs.Prelude.{Option, Some, None}
 use Rattle.steps.specs.declared.Want.{Want}
 use Rattle.steps.specs.declared.Want.TheVariants.{OperandRead, Statements, MoveRead, DoRead, StayRead}
 use Rattle.steps.specs.declared.Open.{Open}
-use Rattle.steps.specs.declared.Go.{Go}
-use Rattle.steps.specs.declared.Go.TheVariants.{To, Stop}
 use Rattle.steps.specs.Turns.{action_turns, closing_turns, ending_turns, turns}
 use Rattle.steps.specs.Going.{first_of, going}
 use Rattle.steps.specs.Opening.{counted, nested_after, open_after}
 
-pub on_hit : (k j : ℕ) (w : Want) (g : Go) → k ≡ j → To w ≡ first_of (eqb k j) w g
+pub on_hit : (k j : ℕ) (w : Want) (g : Option Want) → k ≡ j → Some w ≡ first_of (eqb k j) w g
 unfolding first_of
 on_hit k j w g e = rw (eq-eqb k j e)
 
-pub on_miss : (k j : ℕ) (w : Want) (g : Go) → (k ≡ j → ⊥) → g ≡ first_of (eqb k j) w g
+pub on_miss : (k j : ℕ) (w : Want) (g : Option Want) → (k ≡ j → ⊥) → g ≡ first_of (eqb k j) w g
 unfolding first_of
 on_miss k j w g e = rw (ne_eqb k j e)
 
 -- one more word that can stand
-pub link : (x : Bool) (w : Want) (g f r : Go) → r ≡ first_of x w g → g ≡ f → r ≡ first_of x w f
+pub link : (x : Bool) (w : Want) (g f r : Option Want) → r ≡ first_of x w g → g ≡ f → r ≡ first_of x w f
 link x w g f r e p = e ∙ ap (first_of x w) p
 
-pub close_bracket : (r : Go) (k n : ℕ) (i : Bool) → (n ≡ 0 → ⊥) → r ≡ first_of (eqb k 22) OperandRead Stop → r ≡ going (closing_turns n i) k
+pub close_bracket : (r : Option Want) (k n : ℕ) (i : Bool) → (n ≡ 0 → ⊥) → r ≡ first_of (eqb k 22) OperandRead None → r ≡ going (closing_turns n i) k
 unfolding closing_turns going
 close_bracket r k zero i h e = absurd (h refl)
 close_bracket r k (suc n) i h e = e
 
-pub close_if : (r : Go) (k n : ℕ) (i : Bool) → n ≡ 0 → i ≡ true → r ≡ first_of (eqb k 12) Statements Stop → r ≡ going (closing_turns n i) k
+pub close_if : (r : Option Want) (k n : ℕ) (i : Bool) → n ≡ 0 → i ≡ true → r ≡ first_of (eqb k 12) Statements None → r ≡ going (closing_turns n i) k
 unfolding closing_turns going
 close_if r k zero true h f e = e
 close_if r k zero false h f e = absurd (clash (cc))
 close_if r k (suc n) i h f e = absurd (omega arith)
 
-pub close_when : (r : Go) (k n : ℕ) (i : Bool) → n ≡ 0 → i ≡ false
-    → r ≡ first_of (eqb k 8) MoveRead (first_of (eqb k 9) DoRead (first_of (eqb k 10) StayRead Stop)) → r ≡ going (closing_turns n i) k
+pub close_when : (r : Option Want) (k n : ℕ) (i : Bool) → n ≡ 0 → i ≡ false
+    → r ≡ first_of (eqb k 8) MoveRead (first_of (eqb k 9) DoRead (first_of (eqb k 10) StayRead None)) → r ≡ going (closing_turns n i) k
 unfolding closing_turns going
 close_when r k zero false h f e = e
 close_when r k zero true h f e = absurd (clash (cc))
 close_when r k (suc n) i h f e = absurd (omega arith)
 
-pub end_body : (r : Go) (k d : ℕ) (h : Bool) → d ≡ 0 → r ≡ going action_turns k → r ≡ going (ending_turns d h) k
+pub end_body : (r : Option Want) (k d : ℕ) (h : Bool) → d ≡ 0 → r ≡ going action_turns k → r ≡ going (ending_turns d h) k
 unfolding ending_turns
 end_body r k zero h p e = e
 end_body r k (suc d) h p e = absurd (omega arith)
 
-pub end_else : (r : Go) (k d : ℕ) (h : Bool) → (d ≡ 0 → ⊥) → h ≡ true → r ≡ first_of (eqb k 14) Statements Stop → r ≡ going (ending_turns d h) k
+pub end_else : (r : Option Want) (k d : ℕ) (h : Bool) → (d ≡ 0 → ⊥) → h ≡ true → r ≡ first_of (eqb k 14) Statements None → r ≡ going (ending_turns d h) k
 unfolding ending_turns going
 end_else r k zero h p q e = absurd (p refl)
 end_else r k (suc d) true p q e = e
 end_else r k (suc d) false p q e = absurd (clash (cc))
 
-pub end_then : (r : Go) (k d : ℕ) (h : Bool) → (d ≡ 0 → ⊥) → h ≡ false → r ≡ first_of (eqb k 13) Statements (first_of (eqb k 14) Statements Stop)
+pub end_then : (r : Option Want) (k d : ℕ) (h : Bool) → (d ≡ 0 → ⊥) → h ≡ false → r ≡ first_of (eqb k 13) Statements (first_of (eqb k 14) Statements None)
     → r ≡ going (ending_turns d h) k
 unfolding ending_turns going
 end_then r k zero h p q e = absurd (p refl)
@@ -65,7 +64,7 @@ end_then r k (suc d) false p q e = e
 end_then r k (suc d) true p q e = absurd (clash (cc))
 
 -- in one arm of the match
-pub arm : (r : Go) (v w : Want) (n : ℕ) (i : Bool) (d : ℕ) (h : Bool) (k : ℕ) → v ≡ w → r ≡ going (turns w n i d h) k → r ≡ going (turns v n i d h) k
+pub arm : (r : Option Want) (v w : Want) (n : ℕ) (i : Bool) (d : ℕ) (h : Bool) (k : ℕ) → v ≡ w → r ≡ going (turns w n i d h) k → r ≡ going (turns v n i d h) k
 arm r v w n i d h k e p = subst (λ (x : Want). r ≡ going (turns x n i d h) k) (sym e) p
 
 pub count_up : (n k up down : ℕ) → k ≡ up → n + 1 ≡ counted n k up down

@@ -13,11 +13,11 @@ use Rattle.model.specs.Words.{choose, maybe}
 use Rattle.grammar.specs.Grammar.{Token, fixed, name, Name, Row, ◌then◌, Operand, not, brackets, Guard, When, Action, Part, stay, single, braces}
 use Rattle.grammar.specs.Kinds.{kind_of}
 use Rattle.grammar.specs.Machine.{Within, list_of, body, then_part, else_part, Owner, a_when, an_if, guard_in, owned, bracket, conj_in, first, after_or, operand_in, first_of, after_and, after_not, At, start, class_read, top_read, class_named, state_read, in_whens, operand_wanted, kin_wanted, side_wanted, set_wanted, left_read, comma_read, names_read, operand_read, move_read, do_read, stay_read, action_read, statements, send_read, command_read, send_all_read, go_read, finished, Move, on, on_name, filled, outer, whole, owner_moves, closing_moves, action_moves, when_moves, ending_moves, atom_of, moves, answer, next}
+use Rattle.std.specs.Prelude.{Some, None}
+use Rattle.std.specs.Prelude as std
 use Rattle.steps.specs.declared.Want.{Want}
 use Rattle.steps.specs.declared.Want.TheVariants.{Start, ClassRead, TopRead, ClassNamed, StateRead, InWhens, OperandWanted, KinWanted, SideWanted, SetWanted, LeftRead, CommaRead, NamesRead, OperandRead, MoveRead, DoRead, StayRead, ActionRead, Statements, SendRead, CommandRead, SendAllRead, GoRead, Finished}
 use Rattle.steps.specs.declared.Open.{Open}
-use Rattle.steps.specs.declared.Go.{Go}
-use Rattle.steps.specs.declared.Go.TheVariants.{To, Stop}
 use Rattle.steps.specs.Turns.{Turn, action_turns, when_turns, operand_turns, closing_turns, operator_turns, ending_turns, statement_turns, turns}
 use Rattle.steps.specs.Going.{going}
 use Rattle.steps.specs.Going as steps
@@ -238,14 +238,14 @@ all_go (go_read l p) = ((refl, (λ n. refl), (λ n. refl)), tt)
 all_go (finished t) = tt
 
 -- where a word leads, as the machine's move says
-unfoldable pub Leads : Opened → ℕ → Go → Option At → Type 0
-Leads o k g none = g ≡ Stop
-Leads o k g (some t) = (g ≡ To (want_of t)) × (opened t ≡ opened_after o k)
+unfoldable pub Leads : Opened → ℕ → std.Option Want → Option At → Type 0
+Leads o k g none = g ≡ None
+Leads o k g (some t) = (g ≡ Some (want_of t)) × (opened t ≡ opened_after o k)
 
 -- the turn is taken, or passed over
 taken : (o : Opened) (t : Turn) (ts : List Turn) (k : ℕ) (s : At) → k ≡ t.kind → want_of s ≡ t.want → opened s ≡ opened_after o k → Leads o k (going (t ∷ ts) k) (some s)
 unfolding going steps.first_of Leads
-taken o t ts k s e w p = (rw (eq-eqb k t.kind e) (ap To (sym w)), p)
+taken o t ts k s e w p = (rw (eq-eqb k t.kind e) (ap Some (sym w)), p)
 
 passed : (o : Opened) (t : Turn) (ts : List Turn) (k : ℕ) (a : Option At) → (k ≡ t.kind → ⊥) → Leads o k (going ts k) a → Leads o k (going (t ∷ ts) k) a
 unfolding going steps.first_of
@@ -347,7 +347,7 @@ else_alone Finished n i d a b k h = refl
 pub step_leads : (s : At) (w : Token) (want : Want) (o : Open) (h : Bool) → want_of s ≡ want → by_number (opened s) ≡ o → (kind_of w ≡ 13 → h ≡ had_else (opened s).ifs)
     → Leads (opened s) (kind_of w) (going (turns want o.brackets o.nested o.ifs h) (kind_of w)) (next (moves s) w)
 step_leads s w want o h e f g =
-    subst (λ (x : Go). Leads (opened s) (kind_of w) x (next (moves s) w))
+    subst (λ (x : std.Option Want). Leads (opened s) (kind_of w) x (next (moves s) w))
     (right (eqb (kind_of w) 13) refl ∙ (λ j. going (turns (e j) (f j).brackets (f j).nested (f j).ifs h) (kind_of w))) (leads s w)
   where
     right : (b : Bool) → eqb (kind_of w) 13 ≡ b

@@ -6,15 +6,15 @@ use Rattle.recognised.proofs.first_wrong.Goals as goal
 pub loop-next-init : goal.loop-next-init
 loop-next-init c = (c.no_marks-marks.ensures, walk_none _ _)
 
-pub returns-in-Stop : goal.returns-in-Stop
-returns-in-Stop c =
-    walk_stop _ _ _ _ _ _ c.loop-next.invariant.1 _ _ _ c.next_word-word.ensures _ c.had_else-had.ensures _ c.step-go.ensures
-    c.in-Stop.is
+pub returns-in_default : goal.returns-in_default
+returns-in_default c =
+    walk_stop _ _ _ _ _ _ c.loop-next.invariant.1 _ _ _ c.next_word-word.ensures _ c.had_else-had.ensures _ c.step.ensures
+    c.in_default.is
 
 pub returns-then-kind-eq-END : goal.returns-then-kind-eq-END
 returns-then-kind-eq-END c =
-    walk_fine _ _ _ _ _ _ c.loop-next.invariant.1 _ _ _ c.next_word-word.ensures _ c.had_else-had.ensures _ c.step-go.ensures _
-    c.in-To.is c.if-kind-eq-END.true
+    walk_fine _ _ _ _ _ _ c.loop-next.invariant.1 _ _ _ c.next_word-word.ensures _ c.had_else-had.ensures _ c.step.ensures _
+    c.in-Some.is c.if-kind-eq-END.true
 
 pub behind-opened-requires : goal.behind-opened-requires
 behind-opened-requires c =
@@ -38,6 +38,6 @@ pub loop-next-preserved : goal.loop-next-preserved
 loop-next-preserved c =
     let l = c.loop-next.invariant in (
       c.note.ensures.as_many ∙ l.0,
-      walk_on _ _ _ _ _ _ l.1 _ _ _ c.next_word-word.ensures _ c.had_else-had.ensures _ c.step-go.ensures _ _ _
-          c.in-To.is c.if-kind-eq-END.false c.behind-opened.ensures c.begun-from.ensures _ c.note.ensures,
+      walk_on _ _ _ _ _ _ l.1 _ _ _ c.next_word-word.ensures _ c.had_else-had.ensures _ c.step.ensures _ _ _
+          c.in-Some.is c.if-kind-eq-END.false c.behind-opened.ensures c.begun-from.ensures _ c.note.ensures,
     )

@@ -4,5 +4,5 @@ use Rattle.steps.proofs.on.Goals as goal
 pub returns-then-kind-k : goal.returns-then-kind-k
 returns-then-kind-k c = on_hit _ _ _ _ c.if-kind-k.true
 
-pub returns : goal.returns
-returns c = on_miss _ _ _ _ c.if-kind-k.false
+pub returns-else-kind-k : goal.returns-else-kind-k
+returns-else-kind-k c = on_miss _ _ _ _ c.if-kind-k.false
