@@ -1,17 +1,17 @@
 -- Laws about texts appended one behind the other.
 -- Assumes nothing.
-use Prim.Native.Nat.{ℕ, zero, suc, ◌+◌, ◌/◌, ◌%◌, ◌<◌, ◌≤◌, min}
+use Prim.Native.Nat.{ℕ, zero, suc, ◌+◌, ◌<◌, ◌≤◌, min}
 use native.Mathlib.Omega.{arith}
 use native.Mathlib.Numerals.{add-one}
 use mathlib.Core.Path.{◌≡◌, refl, sym, ◌∙◌, ap}
 use mathlib.Core.Bool.{Bool, true, false}
 use mathlib.Core.List.{List, [], ◌∷◌, ◌++◌}
 use lib.Dec.{leb}
-use lib.ListN.{length, take, drop, get_or, set, length-append, length-set}
+use lib.ListN.{length, take, drop, get_or, set, length-append}
 use lib.Seq.{sets, sets-eq, length-sets, set_out, take-suc, take_all, take_at}
 use borrow.Author.Tests.{leb-true, leb-false}
 use Rattle.io.proofs.Counting.{prefix_len_of_le}
-use Rattle.texts.specs.Texts.{Appended, hex_digit, hex_byte, hex_text}
+use Rattle.texts.specs.Texts.{Appended, hex_byte, hex_text}
 
 -- a run of stores in two parts
 pub sets_append : (l : List ℕ) (i : ℕ) (xs ys : List ℕ) → sets l i (xs ++ ys) ≡ sets (sets l i xs) (i + length xs) ys
@@ -38,14 +38,6 @@ sets_clipped l i xs = go (leb i (length l)) refl
 -- nothing appended
 pub appended_none : (l : List ℕ) (at end : ℕ) → end ≡ min at (length l) → Appended l l at [] end
 appended_none l at end e = record { buffer = refl; place = omega arith; counted = prefix_len_of_le end l (omega arith) }
-
--- one byte appended, with room and without
-pub appended_one : (l : List ℕ) (at x : ℕ) → at < length l → Appended l (set l at x) at (x ∷ []) (at + 1)
-appended_one l at x h =
-    record { buffer = refl; place = omega arith; counted = prefix_len_of_le (at + 1) (set l at x) (omega (arith, length-set l at x)) }
-
-pub appended_past : (l : List ℕ) (at x : ℕ) → length l ≤ at → Appended l l at (x ∷ []) (length l)
-appended_past l at x h = record { buffer = sym (set_out l at x h); place = omega arith; counted = prefix_len_of_le (length l) l (omega arith) }
 
 -- one text behind another
 pub appended_then : (l m n : List ℕ) (at end stop : ℕ) (s t : List ℕ) → Appended l m at s end → Appended m n end t stop → Appended l n at (s ++ t) stop
@@ -94,9 +86,3 @@ appended_hex l m n at end stop s i h a b =
 
 pub appended_all_hex : (l m : List ℕ) (at end : ℕ) (s : List ℕ) (i : ℕ) → length s ≤ i → Appended l m at (hex_text (take i s)) end → Appended l m at (hex_text s) end
 appended_all_hex l m at end s i h a = rw (take_all i s h) at a
-
--- the two digits of a byte
-pub appended_pair : (l m n : List ℕ) (at end stop x y b : ℕ) → Appended l m at (x ∷ []) end → Appended m n end (y ∷ []) stop
-    → x ≡ hex_digit (b / 16) → y ≡ hex_digit (b % 16) → Appended l n at (hex_byte b) stop
-appended_pair l m n at end stop x y b p q e f =
-    appended_same l n at stop (x ∷ y ∷ []) (hex_byte b) (rw (e, f)) (appended_then l m n at end stop (x ∷ []) (y ∷ []) p q)

@@ -1,16 +1,26 @@
 -- Laws about digits and strings of bytes in hex: one for each turn and return of the code in reading.rt.
 -- Assumes nothing.
-use Prim.Native.Nat.{ℕ, suc, ◌+◌, ◌-◌, ◌*◌, ◌/◌, ◌%◌, ◌<◌, ◌≤◌}
+use Prim.Native.Nat.{ℕ, suc, ◌+◌, ◌*◌, ◌/◌, ◌%◌, ◌<◌, ◌≤◌}
 use native.Mathlib.Omega.{arith}
 use native.Mathlib.Numerals.{add-one}
 use mathlib.Core.Path.{◌≡◌, refl, sym, ◌∙◌, ap}
-use mathlib.Core.Bool.{Bool, true, false, cond, ◌&&◌}
+use mathlib.Core.Bool.{Bool, true, false, ◌&&◌}
 use mathlib.Core.List.{List, [], ◌∷◌}
 use lib.Dec.{eqb, leb}
 use lib.ListN.{length, drop, get_or, set, length-drop, drop_of_length-le}
-use lib.Seq.{sets, length-sets, drop-cons}
-use borrow.Author.Tests.{lt-ltb, le-ltb, le-leb, lt-leb, leb-true}
-use Rattle.texts.specs.Fields.{digit_value, hex_value, hex_digits, pair_value, hex_bytes, string_right, string_bytes, Decodes}
+use lib.Seq.{sets, drop-cons}
+use borrow.Author.Tests.{eq-eqb, ne_eqb, le-leb, lt-leb}
+use Rattle.std.specs.Prelude.{Option, Some, None, MatchOption, is_some}
+use Rattle.texts.specs.Fields.{hex_value, hex_digits, pair_value, hex_bytes, string_right, string_bytes, Decodes}
+
+-- what a byte's value is where it is a hex digit, and where it is none
+pub figure_value : (o : Option ℕ) (v : ℕ) → MatchOption o (v ≡ 16) (λ d. (d < 16) × (d ≡ v)) → is_some o ≡ true → v ≤ 15
+figure_value None v k e = absurd (let z : ◌≡◌ {A = ℕ} 0 1 = cc in omega arith)
+figure_value (Some d) v k e = omega (arith, k.0, k.1)
+
+pub no_figure : (o : Option ℕ) (v : ℕ) → MatchOption o (v ≡ 16) (λ d. (d < 16) × (d ≡ v)) → is_some o ≡ false → 15 < v
+no_figure None v k e = omega (arith, k)
+no_figure (Some d) v k e = absurd (let z : ◌≡◌ {A = ℕ} 0 1 = cc in omega arith)
 
 -- hex digits from a place on
 pub hex_on : (l : List ℕ) (i : ℕ) (t : Bool) → i < length l → t ≡ hex_digits (drop i l) → hex_value (get_or l i 0) ≤ 15 → t ≡ hex_digits (drop (i + 1) l)
@@ -46,38 +56,6 @@ unpack_end l o z i h k s = go (drop (2 * i) l) (omega (arith, length-drop (2 * i
     go (a ∷ []) e = refl
     go (a ∷ b ∷ m) e = absurd (omega arith)
 
--- a digit's value, by the tests of the code
-pub digit_low : (b : ℕ) → b < 48 → 10 ≡ digit_value b
-digit_low b h = rw (lt-ltb b 48 h)
-
-pub digit_is : (b : ℕ) → 48 ≤ b → b < 58 → b - 48 ≡ digit_value b
-digit_is b h k = rw (le-ltb b 48 h, lt-ltb b 58 k)
-
-pub digit_high : (b : ℕ) → 48 ≤ b → 58 ≤ b → 10 ≡ digit_value b
-digit_high b h k = rw (le-ltb b 48 h, le-ltb b 58 k)
-
-pub hex_low : (b : ℕ) → b < 48 → 16 ≡ hex_value b
-hex_low b h = rw (lt-ltb b 48 h)
-
-pub hex_figure : (b : ℕ) → 48 ≤ b → b < 58 → b - 48 ≡ hex_value b
-hex_figure b h k = rw (le-ltb b 48 h, lt-ltb b 58 k)
-
-pub hex_middle : (b : ℕ) → 58 ≤ b → b < 97 → 16 ≡ hex_value b
-hex_middle b h k = let g : 48 ≤ b = omega arith in rw (le-ltb b 48 g, le-ltb b 58 h, lt-ltb b 97 k)
-
-pub hex_letter : (b : ℕ) → 97 ≤ b → b < 103 → b - 87 ≡ hex_value b
-hex_letter b h k =
-    let g : 48 ≤ b = omega arith in
-    let f : 58 ≤ b = omega arith in
-    rw (le-ltb b 48 g, le-ltb b 58 f, le-ltb b 97 h, lt-ltb b 103 k)
-
-pub hex_high : (b : ℕ) → 103 ≤ b → 16 ≡ hex_value b
-hex_high b h =
-    let g : 48 ≤ b = omega arith in
-    let f : 58 ≤ b = omega arith in
-    let k : 97 ≤ b = omega arith in
-    rw (le-ltb b 48 g, le-ltb b 58 f, le-ltb b 97 k, le-ltb b 103 h)
-
 -- two digits are a byte
 hex_length : (l : List ℕ) → length (hex_bytes l) ≡ length l / 2
 unfolding hex_bytes
@@ -85,21 +63,23 @@ hex_length [] = refl
 hex_length (a ∷ []) = refl
 hex_length (a ∷ b ∷ l) = let r = hex_length l in omega arith
 
-cond_same : (t : Bool) → ◌≡◌ {A = List ℕ} (cond t [] []) []
-cond_same true = refl
-cond_same false = refl
-
 -- a field of no byte, of one, of more that are not right and that are
-pub decode_none : (l o : List ℕ) → length l ≡ 0 → Decodes l o o (record { right = false; length = 0 })
+pub decode_none : (l o : List ℕ) → length l ≡ 0 → Decodes l o o None
 unfolding string_right string_bytes
-decode_none [] o h = record { right = refl; length = refl; buffer = refl }
+decode_none [] o h = record { result = refl; buffer = refl }
 decode_none (a ∷ l) o h = absurd (omega arith)
 
-pub decode_one : (l o : List ℕ) → length l ≡ 1 → Decodes l o o (record { right = eqb (get_or l 0 0) 45; length = 0 })
+pub decode_dash : (l o : List ℕ) → length l ≡ 1 → get_or l 0 0 ≡ 45 → Decodes l o o (Some 0)
 unfolding string_right string_bytes hex_bytes
-decode_one [] o h = absurd (omega arith)
-decode_one (a ∷ []) o h = let e = cond_same (eqb a 45) in record { right = refl; length = ap length (sym e); buffer = ap (sets o 0) (sym e) }
-decode_one (a ∷ b ∷ l) o h = absurd (omega arith)
+decode_dash [] o h e = absurd (omega arith)
+decode_dash (a ∷ []) o h e = let t : eqb a 45 ≡ true = eq-eqb a 45 e in record { result = rw t; buffer = rw t }
+decode_dash (a ∷ b ∷ l) o h e = absurd (omega arith)
+
+pub decode_other : (l o : List ℕ) → length l ≡ 1 → (get_or l 0 0 ≡ 45 → ⊥) → Decodes l o o None
+unfolding string_right string_bytes hex_bytes
+decode_other [] o h e = absurd (omega arith)
+decode_other (a ∷ []) o h e = let t : eqb a 45 ≡ false = ne_eqb a 45 e in record { result = rw t; buffer = rw t }
+decode_other (a ∷ b ∷ l) o h e = absurd (omega arith)
 
 string_told : (room : ℕ) (l : List ℕ) → (length l ≡ 0 → ⊥) → (length l ≡ 1 → ⊥)
     → string_right room l ≡ (eqb (length l % 2) 0 && (leb (length l / 2) room && hex_digits l))
@@ -109,29 +89,17 @@ string_told room (a ∷ []) f g = absurd (g refl)
 string_told room (a ∷ b ∷ l) f g = refl
 
 pub decode_wrong : (l o : List ℕ) (t : Bool) → (length l ≡ 0 → ⊥) → (length l ≡ 1 → ⊥) → t ≡ hex_digits l
-    → (eqb (length l % 2) 0 && (leb (length l / 2) (length o) && t)) ≡ false → Decodes l o o (record { right = false; length = 0 })
+    → (eqb (length l % 2) 0 && (leb (length l / 2) (length o) && t)) ≡ false → Decodes l o o None
 unfolding string_bytes
 decode_wrong l o t f g e w =
     let r : string_right (length o) l ≡ false = string_told (length o) l f g ∙ (rw e at w) in
     let b : string_bytes (length o) l ≡ [] = rw r in
-    record { right = sym r; length = rw b; buffer = rw b }
+    record { result = rw r; buffer = rw b }
 
 pub decode_right : (l o p : List ℕ) (t : Bool) → (length l ≡ 0 → ⊥) → (length l ≡ 1 → ⊥) → t ≡ hex_digits l
-    → (eqb (length l % 2) 0 && (leb (length l / 2) (length o) && t)) ≡ true → p ≡ sets o 0 (hex_bytes l) → Decodes l o p (record { right = true; length = length l / 2 })
+    → (eqb (length l % 2) 0 && (leb (length l / 2) (length o) && t)) ≡ true → p ≡ sets o 0 (hex_bytes l) → Decodes l o p (Some (length l / 2))
 unfolding string_bytes
 decode_right l o p t f g e w q =
     let r : string_right (length o) l ≡ true = string_told (length o) l f g ∙ (rw e at w) in
     let b : string_bytes (length o) l ≡ hex_bytes l = rw r in
-    record { right = sym r; length = sym (hex_length l) ∙ ap length (sym b); buffer = q ∙ ap (sets o 0) (sym b) }
-
-second_of : (a b c : Bool) → (a && (b && c)) ≡ true → b ≡ true
-second_of true true c h = refl
-second_of true false c h = h
-second_of false b c h = absurd (let z : ◌≡◌ {A = ℕ} 0 1 = cc in omega arith)
-
--- what is decoded lies within the buffer
-pub decode_fits : (l o p : List ℕ) (t : Bool) → (eqb (length l % 2) 0 && (leb (length l / 2) (length o) && t)) ≡ true → p ≡ sets o 0 (hex_bytes l)
-    → length l / 2 ≤ length p
-decode_fits l o p t w q =
-    let f : leb (length l / 2) (length o) ≡ true = second_of (eqb (length l % 2) 0) (leb (length l / 2) (length o)) t w in
-    omega (arith, leb-true (length l / 2) (length o) f, ap length q ∙ length-sets o 0 (hex_bytes l))
+    record { result = rw (r, hex_length l); buffer = q ∙ ap (sets o 0) (sym b) }

@@ -1,11 +1,8 @@
 -- What is read from a line: its fields, numbers from 0 to 255, strings of bytes in hex.
 -- Assumes nothing.
-use Rattle.std.specs.Prelude.{ℕ, suc, ◌+◌, ◌-◌, ◌*◌, ◌/◌, ◌%◌, ◌≤◌, max, ◌≡◌, Bool, true, false, cond, ◌&&◌, ◌||◌, List, [], ◌∷◌, eqb, leb, ltb}
+use Rattle.std.specs.Prelude.{ℕ, suc, ◌+◌, ◌-◌, ◌*◌, ◌/◌, ◌%◌, ◌≤◌, ◌<◌, max, ◌≡◌, Bool, true, false, cond, ◌&&◌, ◌||◌, List, [], ◌∷◌, eqb, leb, ltb, Option, Some, None}
 use lib.ListN.{length, drop}
 use Rattle.std.proofs.lemmas.List.Edits.{sets}
-use Rattle.texts.specs.declared.reading.Number.{Number}
-use Rattle.texts.specs.declared.reading.Number.TheVariants.{Is, Bad}
-use Rattle.texts.specs.declared.reading.Decoded.{Decoded}
 
 -- how many bytes stand before the first byte b
 unfoldable pub until : ℕ → List ℕ → ℕ
@@ -17,6 +14,11 @@ pub record Finds (b : ℕ) (l : List ℕ) (at r : ℕ) : Type 0 where
   pub place : r ≡ at + until b (drop at l)
   pub onward : at ≤ r
   pub within : r ≤ max at (length l)
+
+-- the place of the next byte b, one of the list's; none where the place found is the end
+abbrev pub FindsNext : ℕ → List ℕ → ℕ → Option ℕ → Type 0
+FindsNext b l at None = Finds b l at (max at (length l))
+FindsNext b l at (Some r) = (r < length l) × Finds b l at r
 
 -- how often the byte b occurs
 unfoldable pub occurs : ℕ → List ℕ → ℕ
@@ -40,21 +42,21 @@ digit_value b = cond (ltb b 48) 10 (cond (ltb b 58) (b - 48) 10)
 abbrev pub number_wrong : ℕ → ℕ → ℕ → ℕ → Bool
 number_wrong x y z least = ltb 9 x || (ltb 9 y || (ltb 9 z || (ltb (x * 100 + y * 10 + z) least || ltb 255 (x * 100 + y * 10 + z))))
 
-abbrev pub picked : Bool → Number → Number → Number
+abbrev pub picked : Bool → Option ℕ → Option ℕ → Option ℕ
 picked true a b = a
 picked false a b = b
 
 -- a number of three digits, or none
-abbrev pub number_from : ℕ → ℕ → ℕ → ℕ → Number
-number_from x y z least = picked (number_wrong x y z least) Bad (Is ((x * 100 + y * 10 + z) % 256))
+abbrev pub number_from : ℕ → ℕ → ℕ → ℕ → Option ℕ
+number_from x y z least = picked (number_wrong x y z least) None (Some ((x * 100 + y * 10 + z) % 256))
 
 -- a decimal number 0 to 255 with no leading zeros: one of two digits is at least 10, one of three at least 100
-unfoldable pub number_of : List ℕ → Number
-number_of [] = Bad
+unfoldable pub number_of : List ℕ → Option ℕ
+number_of [] = None
 number_of (a ∷ []) = number_from 0 0 (digit_value a) 0
 number_of (a ∷ b ∷ []) = number_from 0 (digit_value a) (digit_value b) 10
 number_of (a ∷ b ∷ c ∷ []) = number_from (digit_value a) (digit_value b) (digit_value c) 100
-number_of (a ∷ b ∷ c ∷ d ∷ rest) = Bad
+number_of (a ∷ b ∷ c ∷ d ∷ rest) = None
 
 -- the value of a lower-case hex digit; 16 of any other byte
 abbrev pub hex_value : ℕ → ℕ
@@ -86,8 +88,7 @@ string_right room (a ∷ b ∷ rest) =
 unfoldable pub string_bytes : ℕ → List ℕ → List ℕ
 string_bytes room l = cond (string_right room l) (hex_bytes l) []
 
--- the field was decoded into the buffer, or is not right and nothing is written
-pub record Decodes (field before after : List ℕ) (r : Decoded) : Type 0 where
-  pub right : r.right ≡ string_right (length before) field
-  pub length : r.length ≡ lib.ListN.length (string_bytes (lib.ListN.length before) field)
-  pub buffer : after ≡ sets before 0 (string_bytes (lib.ListN.length before) field)
+-- the field was decoded into the buffer, and so many bytes are; or it is not right and nothing is written
+pub record Decodes (field before after : List ℕ) (r : Option ℕ) : Type 0 where
+  pub result : r ≡ cond (string_right (length before) field) (Some (length (string_bytes (length before) field))) None
+  pub buffer : after ≡ sets before 0 (string_bytes (length before) field)

@@ -7,7 +7,7 @@ ghost use Rattle.texts.specs.Texts.{Appended, decimal_text, number_text, hex_dig
 pub fn least(a: usize, b: usize) -> usize
     ensures { result ≡ min a b }
 {
-    if a < b { a } else { b }
+    a.min(b)
 }
 
 // One byte.
@@ -26,10 +26,8 @@ pub fn append_bytes(out: &mut [u8], at: usize, bytes: &[u8]) -> usize
     ensures { Appended out.old out.new at bytes.now result }
 {
     let mut end = least(at, out.len());
-    let mut i = 0;
-    while i < bytes.len() {
-        end = append_byte(out, end, bytes[i]);
-        i = i + 1;
+    for x in bytes {
+        end = append_byte(out, end, *x);
     }
     end
 }
@@ -72,10 +70,8 @@ pub fn append_hex(out: &mut [u8], at: usize, bytes: &[u8]) -> usize
     ensures { Appended out.old out.new at (hex_text bytes.now) result }
 {
     let mut end = least(at, out.len());
-    let mut i = 0;
-    while i < bytes.len() {
-        end = append_hex_byte(out, end, bytes[i]);
-        i = i + 1;
+    for x in bytes {
+        end = append_hex_byte(out, end, *x);
     }
     end
 }

@@ -1,10 +1,7 @@
 -- The invariant: the byte was not met from the first place up to this one.
 -- Assumes nothing.
-use Rattle.texts.proofs.FieldLaws.{seek_none, seek_on, seek_found, seek_end}
+use Rattle.texts.proofs.FieldLaws.{seek_on, seek_found, seek_end}
 use Rattle.texts.proofs.reading.find.Goals as goal
-
-pub loop-at-init : goal.loop-at-init
-loop-at-init c = seek_none _ _ _
 
 pub returns-then-bytes-at : goal.returns-then-bytes-at
 returns-then-bytes-at c = seek_found _ _ _ _ c.loop-at.invariant c.loop-at-test.true c.if-bytes-at.true

@@ -3,8 +3,8 @@
 use Rattle.texts.proofs.FieldLaws.{rest_part, no_rest}
 use Rattle.texts.proofs.reading.other_fields.Goals as goal
 
-pub returns-then-end-line : goal.returns-then-end-line
-returns-then-end-line c = rest_part _ _ _ c.find-end.ensures
+pub returns-in-Some : goal.returns-in-Some
+returns-in-Some c = rest_part _ _ _ c.in-Some.ensures.1
 
-pub returns : goal.returns
-returns c = no_rest _ _ _ c.find-end.ensures c.if-end-line.false
+pub returns-in-None : goal.returns-in-None
+returns-in-None c = no_rest _ _ c.in-None.ensures
