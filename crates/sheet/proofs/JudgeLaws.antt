@@ -15,8 +15,7 @@ use Rattle.sheet.specs.Contents.{record_bytes, fewest, most, start, size, count_
 use Rattle.records.specs.Bytes.{in_fours, in_eights}
 use Rattle.sheet.specs.Rules.{checked, refusal_in, refusal}
 use Rattle.bodies.specs.BodyRules.{classes_right, counts_right, records_right, guards_right, targets_right, actions_right, statements_right}
-use Rattle.sheet.specs.declared.judging.Places.{Places}
-use Rattle.sheet.specs.Verdict.{place_numbers, outcome, verdict}
+use Rattle.sheet.specs.Verdict.{verdict}
 
 -- every record has some bytes
 pub some_bytes : (k : ℕ) → k < 6 → 0 < record_bytes k
@@ -107,14 +106,8 @@ module _ {r ok : Bool} {x : ℕ} (n : ℕ) (rest : ℕ) (e : x ≡ checked ok (s
   pub goes_on : not r ≡ false → x ≡ rest
   goes_on t = e ∙ ap (λ (ok : Bool). checked ok (suc n) (λ _. rest)) (sym h ∙ not-false r t)
 
-  pub stops : not r ≡ true → (p : Places) → suc n ∷ [] ≡ outcome x p
-  stops t p =
-      let f : ok ≡ false = sym h ∙ not-true r t in
-      rw (e, f, ne_eqb (suc n) 0 (λ z. omega arith))
-
--- where no check is left
-pub accepts : {x : ℕ} → x ≡ 0 → (p : Places) → 0 ∷ place_numbers p ≡ outcome x p
-accepts e p = rw e
+  pub stops : not r ≡ true → suc n ≡ x
+  stops t = let f : ok ≡ false = sym h ∙ not-true r t in rw (e, f)
 
 -- the check of the length, as the judge makes it
 below_or_not : (a b : ℕ) → leb a b ≡ not (ltb b a)

@@ -4,12 +4,17 @@ use Prim.Native.Nat.{ℕ, ◌+◌, ◌-◌, ◌<◌, ◌≤◌}
 use native.Mathlib.Omega.{arith}
 use mathlib.Core.Path.{◌≡◌, sym, ap, subst, ◌∙◌}
 use mathlib.Core.Bool.{true}
-use mathlib.Core.List.{List}
+use mathlib.Core.List.{List, [], ◌∷◌}
 use lib.ListN.{length, take, drop}
+use borrow.Author.Tests.{ne_eqb}
+use Rattle.std.specs.Prelude.{Result, Ok, Err}
+use Rattle.model.specs.Refusals.{number_of}
+use Rattle.model.specs.declared.Refusal.{Refusal}
+use Rattle.model.proofs.RefusalLaws.{not_zero}
 use Rattle.sheet.specs.Contents.{start, size, body, length_right, contents_right, Bodies, bodies}
 use Rattle.sheet.specs.Rules.{refusal_in, refusal}
 use Rattle.sheet.specs.declared.judging.Places.{Places}
-use Rattle.sheet.specs.Verdict.{places_of, outcome, verdict, together, ShortBodies}
+use Rattle.sheet.specs.Verdict.{places_of, place_numbers, refused_number, outcome, verdict, together, ShortBodies}
 use Rattle.sheet.proofs.Contents.{next_start, last_end, counted}
 
 -- the parts of a byte string that places mark off
@@ -87,8 +92,17 @@ module _ (b : List ℕ) (h : contents_right b ≡ true) where
     pub cut_short : let s = cut b p in ShortBodies s.classes s.states s.whens s.actions
     cut_short = subst (λ (s : Bodies). ShortBodies s.classes s.states s.whens s.actions) (sym cut_right) bodies_short
 
-    pub verdict_told : {l : List ℕ} → length_right b ≡ true → l ≡ outcome (refusal_in (cut b p)) p → l ≡ verdict b
+    -- the first rule that the parts break decides
+    verdict_told : {n : ℕ} → length_right b ≡ true → n ≡ refusal_in (cut b p) → outcome n p ≡ verdict b
     unfolding verdict refusal
-    verdict_told {l} r j =
+    verdict_told {n} r j =
         let f : verdict b ≡ outcome (refusal_in (bodies b)) (places_of b) = rw (r, h) in
-        j ∙ ap (λ (s : Bodies). outcome (refusal_in s) p) cut_right ∙ ap (outcome (refusal_in (bodies b))) e ∙ sym f
+        ap (λ (n : ℕ). outcome n p) (j ∙ ap refusal_in cut_right) ∙ ap (outcome (refusal_in (bodies b))) e ∙ sym f
+
+    pub told_right : length_right b ≡ true → {r : Result (Unit {0}) Refusal} (x : Unit {0}) → r ≡ Ok x → refused_number r ≡ refusal_in (cut b p) → 0 ∷ place_numbers p ≡ verdict b
+    told_right l x a j = verdict_told l (rw a at j)
+
+    pub told_broken : length_right b ≡ true → {r : Result (Unit {0}) Refusal} (x : Refusal) → r ≡ Err x → refused_number r ≡ refusal_in (cut b p) → number_of x ∷ [] ≡ verdict b
+    told_broken l x a j =
+        let f : number_of x ∷ [] ≡ outcome (number_of x) p = rw (ne_eqb (number_of x) 0 (not_zero x)) in
+        f ∙ verdict_told l (rw a at j)

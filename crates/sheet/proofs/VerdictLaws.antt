@@ -6,6 +6,7 @@ use mathlib.Core.Path.{◌≡◌, refl, sym, ap, ◌∙◌}
 use mathlib.Core.Bool.{Bool, true, false}
 use mathlib.Core.List.{List, [], ◌∷◌}
 use borrow.Author.Tests.{ne_eqb}
+use Rattle.std.specs.Prelude.{Ok, Err}
 use Rattle.model.specs.Refusals.{number_of}
 use Rattle.model.proofs.Words.{clash}
 use Rattle.model.proofs.RefusalLaws.{same_number}
@@ -15,9 +16,7 @@ use Rattle.records.specs.Bytes.{in_fours, in_eights}
 use Rattle.sheet.specs.Rules.{checked, refusal_in, refusal}
 use Rattle.bodies.specs.BodyRules.{classes_right, counts_right, records_right, guards_right, targets_right, actions_right, statements_right}
 use Rattle.sheet.specs.declared.judging.Places.{Places}
-use Rattle.sheet.specs.declared.judging.Verdict.{Verdict}
-use Rattle.sheet.specs.declared.judging.Verdict.TheVariants.{Accepted, Refused}
-use Rattle.sheet.specs.Verdict.{places_of, place_numbers, verdict_numbers, outcome, verdict}
+use Rattle.sheet.specs.Verdict.{Verdict, places_of, place_numbers, verdict_numbers, outcome, verdict}
 
 -- the answer's numbers tell the answer
 same_places : (p q : Places) → place_numbers p ≡ place_numbers q → p ≡ q
@@ -31,10 +30,10 @@ same_places p q e =
     λ i. record { classes = a i; states = b i; whens = c i; guards = d i; actions = f i; statements = g i }
 
 same_answer : (r s : Verdict) → verdict_numbers r ≡ verdict_numbers s → r ≡ s
-same_answer (Accepted p) (Accepted q) e = ap Accepted (same_places p q (cc))
-same_answer (Accepted p) (Refused y) e = absurd (clash (cc))
-same_answer (Refused x) (Accepted q) e = absurd (clash (cc))
-same_answer (Refused x) (Refused y) e = ap Refused (same_number x y (cc))
+same_answer (Ok p) (Ok q) e = ap Ok (same_places p q (cc))
+same_answer (Ok p) (Err y) e = absurd (clash (cc))
+same_answer (Err x) (Ok q) e = absurd (clash (cc))
+same_answer (Err x) (Err y) e = ap Err (same_number x y (cc))
 
 -- the judge's promise leaves one answer
 pub one_verdict : (b : List ℕ) (r s : Verdict) → verdict_numbers r ≡ verdict b → verdict_numbers s ≡ verdict b → r ≡ s
@@ -70,12 +69,12 @@ refusal_most b =
 
 module _ (b : List ℕ) (r : Verdict) (e : verdict_numbers r ≡ verdict b) where
   -- an accepted sheet keeps the rules, and its places are those that its contents name
-  pub told_accepted : (p : Places) → r ≡ Accepted p → (refusal b ≡ 0) × (p ≡ places_of b)
+  pub told_accepted : (p : Places) → r ≡ Ok p → (refusal b ≡ 0) × (p ≡ places_of b)
   unfolding verdict
   told_accepted p a = verdict_accepted (refusal b) p (places_of b) (rw a at e)
 
   -- a refused one gets the number of the first rule that it breaks
-  pub told_refused : (x : Refusal) → r ≡ Refused x → (number_of x ≡ refusal b) × (1 ≤ number_of x) × (number_of x ≤ 9)
+  pub told_refused : (x : Refusal) → r ≡ Err x → (number_of x ≡ refusal b) × (1 ≤ number_of x) × (number_of x ≤ 9)
   unfolding verdict
   told_refused x a =
       let (f, l) = verdict_refused (refusal b) x (places_of b) (rw a at e) in

@@ -1,13 +1,12 @@
--- What the judge answers: the refusal's number, or acceptance with the places of the six bodies.
+-- What the judge answers: the refusal, or acceptance with the places of the six bodies.
 -- Assumes nothing.
-use Rattle.std.specs.Prelude.{ℕ, ◌≤◌, ◌≡◌, List, [], ◌∷◌, eqb, length}
+use Rattle.std.specs.Prelude.{ℕ, ◌≤◌, ◌≡◌, List, [], ◌∷◌, eqb, length, Result, Ok, Err}
 use Rattle.model.specs.Words.{choose}
 use Rattle.model.specs.Refusals.{number_of}
+use Rattle.model.specs.declared.Refusal.{Refusal}
 use Rattle.sheet.specs.Contents.{Bodies, start}
 use Rattle.sheet.specs.Rules.{refusal, Accepted as IsAccepted}
 use Rattle.sheet.specs.declared.judging.Places.{Places}
-use Rattle.sheet.specs.declared.judging.Verdict.{Verdict}
-use Rattle.sheet.specs.declared.judging.Verdict.TheVariants.{Accepted, Refused}
 
 -- where each body starts, as the contents say
 abbrev pub places_of : List ℕ → Places
@@ -16,10 +15,18 @@ places_of b = record { classes = start b 0; states = start b 1; whens = start b 
 abbrev pub place_numbers : Places → List ℕ
 place_numbers p = p.classes ∷ p.states ∷ p.whens ∷ p.guards ∷ p.actions ∷ p.statements ∷ []
 
+abbrev pub Verdict : Type 0
+Verdict = Result Places Refusal
+
 -- the paper's number and values of each case
 abbrev pub verdict_numbers : Verdict → List ℕ
-verdict_numbers (Accepted p) = 0 ∷ place_numbers p
-verdict_numbers (Refused x) = number_of x ∷ []
+verdict_numbers (Ok p) = 0 ∷ place_numbers p
+verdict_numbers (Err x) = number_of x ∷ []
+
+-- a refusal's number, 0 for none
+abbrev pub refused_number : {A : Type 0} → Result A Refusal → ℕ
+refused_number (Ok _) = 0
+refused_number (Err x) = number_of x
 
 -- those of a refusal number, 0 for none, and of places
 abbrev pub outcome : ℕ → Places → List ℕ

@@ -2,7 +2,7 @@
 ghost use Rattle.std.specs.Prelude.{◌≡◌, ◌+◌, ◌*◌, ◌<◌};
 ghost use Rattle.sheet.specs.Contents.{start, size, count_right, bodies_follow, counts_in_range};
 ghost use Rattle.sheet.specs.Rules.{refusal_in};
-ghost use Rattle.sheet.specs.Verdict.{places_of, verdict_numbers, outcome, verdict, together, ShortBodies};
+ghost use Rattle.sheet.specs.Verdict.{places_of, verdict_numbers, refused_number, verdict, together, ShortBodies};
 
 use bodies::checks::{
     actions_ok, classes_ok, counts_ok, guards_ok, records_ok, statements_ok, targets_ok,
@@ -19,13 +19,6 @@ pub struct Places {
     pub guards: usize,
     pub actions: usize,
     pub statements: usize,
-}
-
-// What the judge answers.
-#[derive(Clone, Copy)]
-pub enum Verdict {
-    Accepted(Places),
-    Refused(Refusal),
 }
 
 const RECORD_BYTES: [usize; 6] = [4, 4, 4, 8, 4, 8];
@@ -108,7 +101,7 @@ fn read_places(sheet: &[u8]) -> Places
     }
 }
 
-// The rules 3 to 9, in their order, each on the bodies that it speaks of.
+// The rules 3 to 9, in their order, each on the bodies that it speaks of: the first that is broken, if any.
 fn judge_bodies(
     classes: &[u8],
     states: &[u8],
@@ -116,45 +109,44 @@ fn judge_bodies(
     guards: &[u8],
     actions: &[u8],
     statements: &[u8],
-    places: Places,
-) -> Verdict
+) -> Result<(), Refusal>
     requires { ShortBodies classes.now states.now whens.now actions.now }
-    ensures { verdict_numbers result ≡ outcome (refusal_in (together classes.now states.now whens.now guards.now actions.now statements.now)) places }
+    ensures { refused_number result ≡ refusal_in (together classes.now states.now whens.now guards.now actions.now statements.now) }
 {
     if !classes_ok(classes) {
-        return Verdict::Refused(Refusal::EmptyNameSet);
+        return Err(Refusal::EmptyNameSet);
     }
     if !counts_ok(states, whens, actions) {
-        return Verdict::Refused(Refusal::ClauseCounts);
+        return Err(Refusal::ClauseCounts);
     }
     if !records_ok(classes, guards) {
-        return Verdict::Refused(Refusal::GuardLayout);
+        return Err(Refusal::GuardLayout);
     }
     if !guards_ok(guards, whens) {
-        return Verdict::Refused(Refusal::GuardReach);
+        return Err(Refusal::GuardReach);
     }
     if !targets_ok(states, whens) {
-        return Verdict::Refused(Refusal::Target);
+        return Err(Refusal::Target);
     }
     if !actions_ok(states, actions, statements) {
-        return Verdict::Refused(Refusal::ActionClause);
+        return Err(Refusal::ActionClause);
     }
     if !statements_ok(classes, states, guards, actions, statements) {
-        return Verdict::Refused(Refusal::Statement);
+        return Err(Refusal::Statement);
     }
-    Verdict::Accepted(places)
+    Ok(())
 }
 
-// The verdict of a byte string offered as a sheet: each body is handed on as a part that starts in the sheet's middle.
-pub fn judge(sheet: &[u8]) -> Verdict
+// The verdict of a byte string offered as a sheet, the places of its bodies or its refusal: each body is handed on as a part that starts in the sheet's middle.
+pub fn judge(sheet: &[u8]) -> Result<Places, Refusal>
     ensures { verdict_numbers result ≡ verdict sheet.now }
 {
     let end = sheet.len();
     if (end < 24) | (18616 < end) {
-        return Verdict::Refused(Refusal::SheetLength);
+        return Err(Refusal::SheetLength);
     }
     if !(bodies_follow(sheet) & counts_in_range(sheet)) {
-        return Verdict::Refused(Refusal::Contents);
+        return Err(Refusal::Contents);
     }
     let p = read_places(sheet);
     let classes = p.classes;
@@ -170,6 +162,6 @@ pub fn judge(sheet: &[u8]) -> Verdict
         &sheet[guards..actions],
         &sheet[actions..statements],
         &sheet[statements..],
-        p,
-    )
+    )?;
+    Ok(p)
 }

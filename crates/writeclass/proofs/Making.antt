@@ -20,10 +20,8 @@ use Rattle.model.proofs.Words.{and_left}
 use Rattle.grammar.proofs.Machine.{clash}
 use Rattle.sheet.specs.Rules.{refusal, Accepted}
 use Rattle.sheet.specs.Reading.{class_of}
-use Rattle.sheet.specs.Verdict.{verdict_numbers, verdict}
+use Rattle.sheet.specs.Verdict.{Verdict, verdict_numbers, verdict}
 use Rattle.sheet.specs.Asked.{on_sheet}
-use Rattle.sheet.specs.declared.judging.Verdict.{Verdict}
-use Rattle.sheet.specs.declared.judging.Verdict.TheVariants.{Refused}
 use Rattle.sheet.proofs.AskedLaws.{asked, refused_too}
 use Rattle.writings.specs.Layout.{Named, class_text}
 use Rattle.writings.specs.Missing.{names_right}
@@ -57,7 +55,7 @@ nothing file want text why e = record { inside = tt; prints = sym e }
 
 module _ (b : List ℕ) (n : Named) (out : List ℕ) where
   -- the judge refused, or the text was asked for
-  pub judge_refused : (r : Verdict) (x : Refusal) → verdict_numbers r ≡ verdict b → r ≡ Refused x → Replied b n out (Err x) out
+  pub judge_refused : (r : Verdict) (x : Refusal) → verdict_numbers r ≡ verdict b → r ≡ Err x → Replied b n out (Err x) out
   unfolding text_reply
   judge_refused r x e a = answered text_values (text_reply b n out) (refuse (number_of x)) (refused_too b r e x a (λ c. reply_text n c out)) out out refl
 

@@ -11,7 +11,7 @@ use model::Refusal;
 use saying::Why;
 use saying::heads::wrong_line;
 use saying::places::in_file;
-use sheet::judging::{Verdict, judge};
+use sheet::judging::judge;
 use writing::write_text;
 
 // The longest file.
@@ -36,13 +36,10 @@ fn written(
 ) -> Result<usize, Refusal>
     ensures { Replied sheet.now (named own_name.now own_states.now names.now commands.now classes.now) text.old result text.new }
 {
-    let verdict = judge(sheet);
-    match verdict {
-        Verdict::Accepted(p) => write_text(
-            sheet, p, own_name, own_states, names, commands, classes, text,
-        ),
-        Verdict::Refused(x) => Err(x),
-    }
+    let p = judge(sheet)?;
+    write_text(
+        sheet, p, own_name, own_states, names, commands, classes, text,
+    )
 }
 
 // The class file of the sheet that starts at a place of the file; its head stands between two places.

@@ -8,7 +8,7 @@ use accepted::readers::{body_of, class_count, state_count};
 use classfile::heads::Used;
 use lists::record_count;
 use saying::{LINE, Why, alone, at_word, of_numbers};
-use sheet::judging::{Places, Verdict, judge};
+use sheet::judging::{Places, judge};
 
 // The file is too long.
 pub fn too_long() -> Why {
@@ -93,10 +93,10 @@ fn wrong_names(
 {
     let verdict = judge(sheet);
     match verdict {
-        Verdict::Accepted(p) => wrong_accepted(
+        Ok(p) => wrong_accepted(
             file, from, sheet, p, states, names, commands, classes,
         ),
-        Verdict::Refused(_) => alone(16),
+        Err(_) => alone(16),
     }
 }
 

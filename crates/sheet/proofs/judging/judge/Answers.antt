@@ -2,7 +2,8 @@
 -- Assumes nothing.
 use borrow.Author.Rules.{rules}
 use Rattle.sheet.proofs.JudgeLaws.{length_wrong, length_fits, contents_wrong, contents_fit}
-use Rattle.sheet.proofs.PlaceLaws.{rising, cut_short, verdict_told}
+use Rattle.sheet.proofs.PlaceLaws.{rising, cut_short, told_right, told_broken}
+use Rattle.std.proofs.lemmas.Result.{err_from_is_err_and}
 use mathlib.Core.Path.{ap}
 use mathlib.Core.Bool.{not}
 use Rattle.sheet.proofs.judging.judge.Goals as goal
@@ -67,5 +68,13 @@ slice_bounds-judge_bodies-start-6 c = let l = rising _ (contents_fit _ c.bodies_
 pub judge_bodies-requires : goal.judge_bodies-requires
 judge_bodies-requires c = cut_short c.args.sheet.now (contents_fit _ c.bodies_follow.ensures c.counts_in_range.ensures (ap not c.if-not-bodies_follow-counts_in_range.false)) c.read_places-p.ensures
 
+pub returns-in_err-judge_bodies : goal.returns-in_err-judge_bodies
+returns-in_err-judge_bodies c =
+    let right = contents_fit _ c.bodies_follow.ensures c.counts_in_range.ensures (ap not c.if-not-bodies_follow-counts_in_range.false) in
+    let p = err_from_is_err_and c.from_residual.result c.from_residual.ensures.1 in
+    rw (p.1, p.2) (told_broken _ right c.read_places-p.ensures (length_fits _ c.if-end.false) _ c.in_err-judge_bodies.was c.judge_bodies.ensures)
+
 pub returns : goal.returns
-returns c = verdict_told _ (contents_fit _ c.bodies_follow.ensures c.counts_in_range.ensures (ap not c.if-not-bodies_follow-counts_in_range.false)) c.read_places-p.ensures (length_fits _ c.if-end.false) c.judge_bodies.ensures
+returns c =
+    let right = contents_fit _ c.bodies_follow.ensures c.counts_in_range.ensures (ap not c.if-not-bodies_follow-counts_in_range.false) in
+    told_right _ right c.read_places-p.ensures (length_fits _ c.if-end.false) _ c.in_ok-judge_bodies.was c.judge_bodies.ensures
