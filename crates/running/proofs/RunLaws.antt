@@ -9,6 +9,7 @@ use mathlib.Core.List.{List, ◌++◌}
 use mathlib.Core.Option.{Option, none, some}
 use lib.ListN.{length}
 use lib.Seq.{sets}
+use Rattle.std.specs.Prelude.{Some, None}
 use Rattle.model.specs.Words.{maybe}
 use Rattle.model.specs.Tree.{Child, Guard, Statement, send, branch, Part, ◌then◌}
 use Rattle.model.specs.Guards.{holds}
@@ -28,7 +29,6 @@ use Rattle.node.specs.Values.{truth_of}
 use Rattle.children.specs.NameSets.{Crewed}
 use Rattle.node.proofs.Agree.{agree}
 use Rattle.running.specs.Running.{Writes, Counted, Does, Room, RunsPart, RunsIf}
-use Rattle.running.specs.declared.Moved.TheVariants.{Not, To}
 use Rattle.running.specs.declared.Ran.{Ran}
 use Rattle.running.proofs.SendLaws.{sets_append, bytes_append, bytes_sum}
 
@@ -146,7 +146,7 @@ module _ (g list part : List ℕ) (at : ℕ) where
           room p at (side b e R.tree R.reads sets R.crewed x ex) (side_reads b e R.tree R.reads sets R.crewed x ex p ep)
           (rw (side_runs b e R.tree R.reads sets R.crewed x ex) at c)
 
-      pub room_ran : {before mid : List ℕ} {ran : Ran} (p : List ℕ) → RunsIf g list part before mid at ran → ran.moved ≡ Not → p ≡ behind_statement (If b) part → Room sets g list p ran.at
+      pub room_ran : {before mid : List ℕ} {ran : Ran} (p : List ℕ) → RunsIf g list part before mid at ran → ran.moved ≡ None → p ≡ behind_statement (If b) part → Room sets g list p ran.at
       room_ran {ran = ran} p done h ep =
           let D = if_done b e R.tree R.reads done in
           room_behind (If b) (the_if b e R.tree R.reads) (read b e R.tree R.reads).begins p ran.at ep (sym D.moved ∙ rw h) D.writes.place
@@ -160,11 +160,11 @@ module _ (g list part : List ℕ) (at : ℕ) where
 
   -- the ways out of `run_list`
   module _ (before : List ℕ) where
-    pub run_nothing : Unknown ≡ statement_record part → RunsPart g list part before before at (record { at = at; moved = Not })
+    pub run_nothing : Unknown ≡ statement_record part → RunsPart g list part before before at (record { at = at; moved = None })
     unfolding Tree.run_part sent_bytes
     run_nothing e p h = rw (read_end g part p h e) (record { writes = record { buffer = refl; place = omega arith }; moved = refl })
 
-    pub run_go : (t : OwnState) → MoveTo t ≡ statement_record part → RunsPart g list part before before at (record { at = at; moved = To t })
+    pub run_go : (t : OwnState) → MoveTo t ≡ statement_record part → RunsPart g list part before before at (record { at = at; moved = Some t })
     unfolding Tree.run_part Tree.run_one sent_bytes
     run_go t e p h = rw (read_move g part p h t e).is (record { writes = record { buffer = refl; place = omega arith }; moved = refl })
 
@@ -176,15 +176,15 @@ module _ (g list part : List ℕ) (at : ℕ) where
         rw B.is (does_on (Tree.run_one (send m (pattern_as c)) ks) (Tree.run_part B.rest ks) refl w (on B.rest (rw er B.reads)))
 
     module _ (b : Branch) (e : If b ≡ statement_record part) {mid : List ℕ} {ran : Ran} (done : RunsIf g list part before mid at ran) where
-      pub run_moved : (t : OwnState) → ran.moved ≡ To t → RunsPart g list part before mid at (record { at = ran.at; moved = To t })
+      pub run_moved : (t : OwnState) → ran.moved ≡ Some t → RunsPart g list part before mid at ran
       unfolding Tree.run_part
       run_moved t em p h =
           let B = (read b e p h).begins in
           let D = if_done b e p h done in
           let z : some t.0 ≡ (Tree.run_one (the_if b e p h) ks).moved = rw em at D.moved in
-          rw B.is (does_stop (Tree.run_one (the_if b e p h) ks) (Tree.run_part B.rest ks) t.0 (sym z) (record { writes = D.writes; moved = z }))
+          rw B.is (does_stop (Tree.run_one (the_if b e p h) ks) (Tree.run_part B.rest ks) t.0 (sym z) D)
 
-      pub run_on : {after : List ℕ} {last : Ran} (rest : List ℕ) → ran.moved ≡ Not → rest ≡ behind_statement (If b) part → RunsPart g list rest mid after ran.at last → RunsPart g list part before after at last
+      pub run_on : {after : List ℕ} {last : Ran} (rest : List ℕ) → ran.moved ≡ None → rest ≡ behind_statement (If b) part → RunsPart g list rest mid after ran.at last → RunsPart g list part before after at last
       unfolding Tree.run_part
       run_on rest em er on p h =
           let B = (read b e p h).begins in

@@ -102,7 +102,6 @@ module _ (l : List ℕ) (p : Pattern) (m : ℕ) where
 
   -- a turn from the first pair on: with what is left to be sent the buffer is as it is to be
   pub record Sending (before : List ℕ) (at : ℕ) (out : List ℕ) (end i : ℕ) : Type 0 where
-    pub inside : i ≤ length l / 2
     pub buffer : sets out end (sent_bytes (left i)) ≡ sets before at (sent_bytes (left 0))
     pub place : end + length (sent_bytes (left i)) ≡ at + length (sent_bytes (left 0))
     pub same : length out ≡ length before
@@ -112,7 +111,6 @@ module _ (l : List ℕ) (p : Pattern) (m : ℕ) where
     send_more {next} h t e =
         let f : end + 3 ≡ suc (suc (suc end)) = omega arith in
         record {
-          inside = omega arith;
           buffer = rw (e, f) (rw (left_one i h t) at s.buffer);
           place = omega (arith, s.place, ap length (left_one i h t));
           same = ap length e ∙ length-sets out end (i % 256 ∷ i / 256 ∷ m ∷ []) ∙ s.same;
@@ -121,7 +119,6 @@ module _ (l : List ℕ) (p : Pattern) (m : ℕ) where
     pub send_past : i < length l / 2 → meant i ≡ false → Sending before at out end (i + 1)
     send_past h t =
         record {
-          inside = omega arith;
           buffer = rw (left_past i h t) at s.buffer;
           place = rw (left_past i h t) at s.place;
           same = s.same;

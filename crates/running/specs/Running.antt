@@ -1,18 +1,17 @@
 -- What the code that runs statements answers, and what it leaves in the lent buffer.
 -- Assumes nothing.
-use Rattle.std.specs.Prelude.{ℕ, ◌+◌, ◌<◌, ◌≤◌, ◌≡◌, Bool, List, length}
+use Rattle.std.specs.Prelude.{ℕ, ◌+◌, ◌<◌, ◌≤◌, ◌≡◌, Bool, List, length, Option as Maybe, Some, None}
 use Rattle.std.proofs.Math.Option.{Option, none, some}
 use Rattle.std.proofs.lemmas.List.Edits.{sets}
 use Rattle.model.specs.Tree.{Pattern, Statement, Part, ◌then◌}
 use Rattle.model.specs.Guards.{concerns}
+use Rattle.model.specs.declared.OwnState.{OwnState}
 use Rattle.model.specs.Running as Tree
 use Rattle.model.specs.Node.{action_of}
 use Rattle.bodies.specs.PartChecks.{Reads}
 use Rattle.sheet.specs.Reading.{class_of}
 use Rattle.children.specs.ChildList.{children_of, sent_bytes}
 use Rattle.children.specs.NameSets.{Crewed}
-use Rattle.running.specs.declared.Moved.{Moved}
-use Rattle.running.specs.declared.Moved.TheVariants.{Not, To}
 use Rattle.running.specs.declared.Ran.{Ran}
 
 -- a child of class i is one of the pattern's, whatever its name
@@ -28,10 +27,14 @@ pub record Writes (sent : List Tree.Sent) (before after : List ℕ) (at end : �
 abbrev pub Counted : List Tree.Sent → ℕ → Type 0
 Counted sent at = at + length (sent_bytes sent) < 1000000000000
 
+-- where a move_to leads, if one ended the clause
+abbrev pub Moved : Type 0
+Moved = Maybe OwnState
+
 -- the state moved to, as the tree has it
 abbrev pub moved_as : Moved → Option ℕ
-moved_as Not = none
-moved_as (To t) = some t.0
+moved_as None = none
+moved_as (Some t) = some t.0
 
 -- what was run sent these commands and moved there
 pub record Does (t : Tree.Ran) (before after : List ℕ) (at : ℕ) (r : Ran) : Type 0 where

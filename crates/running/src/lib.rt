@@ -26,18 +26,11 @@ use node::values::guard_true;
 use records::kinds::{Pattern, class_at};
 use sheet::judging::Places;
 
-// Whether a move_to ended the clause, and where it leads.
-#[derive(Clone, Copy)]
-pub enum Moved {
-    Not,
-    To(OwnState),
-}
-
-// What running statements did: the place in the buffer behind the bytes sent, and the move.
+// What running statements did: the place in the buffer behind the bytes sent, and where the move_to that ended the clause leads, if one did.
 #[derive(Clone, Copy)]
 pub struct Ran {
     pub at: usize,
-    pub moved: Moved,
+    pub moved: Option<OwnState>,
 }
 
 // A byte at a place of the buffer; past its end nothing is stored.
@@ -76,14 +69,11 @@ fn send(list: &[u8], pattern: Pattern, command: u8, out: &mut [u8], at: usize) -
     ensures { Writes (sent_to command (pattern_as pattern) 0 (children_of list.now)) out.old out.new at result }
 {
     let mut end = at;
-    let mut i = 0;
-    while i < list.len() / 2 {
-        let place = i;
-        let meant = is_meant(pattern, class_at(list, 2 * place));
-        i = i + 1;
+    for i in 0..list.len() / 2 {
+        let meant = is_meant(pattern, class_at(list, 2 * i));
         if meant {
-            put(out, end, place, command);
-            end = end + 3;
+            put(out, end, i, command);
+            end += 3;
         }
     }
     end
@@ -101,26 +91,15 @@ fn run_list(g: &[u8], sets: [u32; 8], list: &[u8], part: &[u8], out: &mut [u8], 
             let next = send(list, pattern, command, out, at);
             run_list(g, sets, list, behind_statement(front, part), out, next)
         }
-        StatementRecord::MoveTo(t) => Ran {
-            at,
-            moved: Moved::To(t),
-        },
+        StatementRecord::MoveTo(t) => Ran { at, moved: Some(t) },
         StatementRecord::If(branch) => {
             let ran = run_if(g, sets, list, branch, part, out, at);
-            let moved = ran.moved;
-            let next = ran.at;
-            match moved {
-                Moved::To(t) => Ran {
-                    at: next,
-                    moved: Moved::To(t),
-                },
-                Moved::Not => run_list(g, sets, list, behind_statement(front, part), out, next),
+            match ran.moved {
+                Some(_) => ran,
+                None => run_list(g, sets, list, behind_statement(front, part), out, ran.at),
             }
         }
-        StatementRecord::Unknown => Ran {
-            at,
-            moved: Moved::Not,
-        },
+        StatementRecord::Unknown => Ran { at, moved: None },
     }
 }
 

@@ -46,11 +46,11 @@ run_list-run_list-requires t c =
 pub run_list-run_if-ran-requires : goal.run_list-run_if-ran-requires
 run_list-run_if-ran-requires t c = (search rules, (c.requires, sym c.statement_record-front.ensures ∙ c.in-If.is))
 
-pub run_list-run_list-requires-in-Not : goal.run_list-run_list-requires-in-Not
-run_list-run_list-requires-in-Not t c =
+pub run_list-run_list-requires-in-None : goal.run_list-run_list-requires-in-None
+run_list-run_list-requires-in-None t c =
     let part = c.args.part.now in
     let f = sym c.in-If.is ∙ c.statement_record-front.ensures in
-    (omega (arith, behind_falls (If c.in-If.branch) part c.behind_statement-in-Not.result.now (told part _ f).0 c.behind_statement-in-Not.ensures), room_ran _ _ _ _ _ c.requires _ f _ c.run_if-ran.ensures c.in-Not.is c.behind_statement-in-Not.ensures)
+    (omega (arith, behind_falls (If c.in-If.branch) part c.behind_statement-in-None.result.now (told part _ f).0 c.behind_statement-in-None.ensures), room_ran _ _ _ _ _ c.requires _ f _ c.run_if-ran.ensures c.in-None.is c.behind_statement-in-None.ensures)
 
 pub run_list-returns-in-Do : goal.run_list-returns-in-Do
 run_list-returns-in-Do t c = run_sent _ _ _ _ _ _ _ (sym c.in-Do.is ∙ c.statement_record-front.ensures) _ c.send-next.ensures c.behind_statement.ensures c.run_list.ensures
@@ -58,11 +58,11 @@ run_list-returns-in-Do t c = run_sent _ _ _ _ _ _ _ (sym c.in-Do.is ∙ c.statem
 pub run_list-returns-in-MoveTo : goal.run_list-returns-in-MoveTo
 run_list-returns-in-MoveTo t c = run_go _ _ _ _ _ _ (sym c.in-MoveTo.is ∙ c.statement_record-front.ensures)
 
-pub run_list-returns-in-To : goal.run_list-returns-in-To
-run_list-returns-in-To t c = run_moved _ _ _ _ _ _ (sym c.in-If.is ∙ c.statement_record-front.ensures) c.run_if-ran.ensures _ c.in-To.is
+pub run_list-returns-in-Some : goal.run_list-returns-in-Some
+run_list-returns-in-Some t c = run_moved _ _ _ _ _ _ (sym c.in-If.is ∙ c.statement_record-front.ensures) c.run_if-ran.ensures _ c.in-Some.is
 
-pub run_list-returns-in-Not : goal.run_list-returns-in-Not
-run_list-returns-in-Not t c = run_on _ _ _ _ _ _ (sym c.in-If.is ∙ c.statement_record-front.ensures) c.run_if-ran.ensures _ c.in-Not.is c.behind_statement-in-Not.ensures c.run_list-in-Not.ensures
+pub run_list-returns-in-None : goal.run_list-returns-in-None
+run_list-returns-in-None t c = run_on _ _ _ _ _ _ (sym c.in-If.is ∙ c.statement_record-front.ensures) c.run_if-ran.ensures _ c.in-None.is c.behind_statement-in-None.ensures c.run_list-in-None.ensures
 
 pub run_list-returns-in-Unknown : goal.run_list-returns-in-Unknown
 run_list-returns-in-Unknown t c = run_nothing _ _ _ _ _ (sym c.in-Unknown.is ∙ c.statement_record-front.ensures)
