@@ -10,30 +10,49 @@ use lib.Dec.{eqb}
 use lib.ListN.{length, get_or, drop, length-drop, drop_of_length-le}
 use lib.Seq.{drop-cons, drop-drop}
 use borrow.Author.Tests.{eq-eqb, ne_eqb}
-use Rattle.classfile.specs.Fields.{field, word_kind, line_kind, file_kind, blank, white, run, cut, fields_from, Next, Blanks, WordEnds}
+use Rattle.classfile.specs.declared.fields.Kind.{Kind}
+use Rattle.classfile.specs.declared.fields.Kind.TheVariants.{Word, LineEnd, FileEnd}
+use Rattle.classfile.specs.Fields.{is_line_end, is_file_end, field, blank, white, run, cut, fields_from, Next, Blanks, WordEnds}
+
+-- a field is the end of a line, or of the file, or not
+pub line_end : (kind : Kind) → kind ≡ LineEnd → is_line_end kind ≡ true
+line_end kind e = ap is_line_end e
+
+pub no_line_end : (kind : Kind) → (kind ≡ LineEnd → ⊥) → is_line_end kind ≡ false
+no_line_end Word h = refl
+no_line_end LineEnd h = absurd (h refl)
+no_line_end FileEnd h = refl
+
+pub file_end : (kind : Kind) → kind ≡ FileEnd → is_file_end kind ≡ true
+file_end kind e = ap is_file_end e
+
+pub no_file_end : (kind : Kind) → (kind ≡ FileEnd → ⊥) → is_file_end kind ≡ false
+no_file_end Word h = refl
+no_file_end LineEnd h = refl
+no_file_end FileEnd h = absurd (h refl)
 
 cut_blank : (b : ℕ) (bs : List ℕ) (at : ℕ) → blank b ≡ true → cut 0 at (b ∷ bs) ≡ cut 0 (suc at) bs
 unfolding cut
 cut_blank b bs at h = rw h
 
-cut_line : (b : ℕ) (bs : List ℕ) (at : ℕ) → blank b ≡ false → eqb b 10 ≡ true → cut 0 at (b ∷ bs) ≡ field line_kind at (suc at) ∷ cut 0 (suc at) bs
+cut_line : (b : ℕ) (bs : List ℕ) (at : ℕ) → blank b ≡ false → eqb b 10 ≡ true → cut 0 at (b ∷ bs) ≡ field LineEnd at (suc at) ∷ cut 0 (suc at) bs
 unfolding cut
 cut_line b bs at h e = rw (h, e)
 
 cut_word : (b : ℕ) (bs : List ℕ) (at : ℕ) → blank b ≡ false → eqb b 10 ≡ false
-    → cut 0 at (b ∷ bs) ≡ field word_kind at (suc at + run bs) ∷ cut (run bs) (suc at) bs
+    → cut 0 at (b ∷ bs) ≡ field Word at (suc at + run bs) ∷ cut (run bs) (suc at) bs
 unfolding cut
 cut_word b bs at h e = rw (h, e)
 
 -- what is passed over
 cut_skip : (l : List ℕ) (k at to : ℕ) → k ≤ length l → to ≡ at + k → cut k at l ≡ cut 0 to (drop k l)
 unfolding cut
-cut_skip [] zero at to h e = ap (λ (n : ℕ). field file_kind n n ∷ []) (let z : at ≡ to = omega arith in z)
+cut_skip [] zero at to h e = ap (λ (n : ℕ). field FileEnd n n ∷ []) (let z : at ≡ to = omega arith in z)
 cut_skip [] (suc k) at to h e = absurd (omega arith)
 cut_skip (b ∷ bs) zero at to h e = ap (λ (n : ℕ). cut 0 n (b ∷ bs)) (let z : at ≡ to = omega arith in z)
 cut_skip (b ∷ bs) (suc k) at to h e = cut_skip bs k (suc at) to (omega arith) (omega arith)
 
-cut_nil : (at : ℕ) → cut 0 at [] ≡ field file_kind at at ∷ []
+cut_nil : (at : ℕ) → cut 0 at [] ≡ field FileEnd at at ∷ []
 unfolding cut
 cut_nil at = refl
 
@@ -57,8 +76,10 @@ skip_on file at i s l w =
 pub skip_found : (file : List ℕ) (at i : ℕ) → Skipping file at i → blank (get_or file i 0) ≡ false → Blanks file at i
 skip_found file at i s w = record { fields = s.fields; onward = s.onward; inside = s.inside; seen = λ _. w }
 
-pub skip_end : (file : List ℕ) (at i : ℕ) → Skipping file at i → length file ≤ i → Blanks file at i
-skip_end file at i s h = record { fields = s.fields; onward = s.onward; inside = s.inside; seen = λ l. absurd (omega arith) }
+pub skip_end : (file : List ℕ) (at i : ℕ) → Skipping file at i → length file ≤ i → Blanks file at (length file)
+skip_end file at i s h =
+    let e : length file ≡ i = omega (arith, s.inside) in
+    rw e (record { fields = s.fields; onward = s.onward; inside = s.inside; seen = λ l. absurd (omega arith) })
 
 -- the word goes on, as far as here
 pub record Running (file : List ℕ) (at i : ℕ) : Type 0 where
@@ -96,13 +117,14 @@ run_found file at i s l w =
     let e : run (drop i file) ≡ 0 = ap run (drop-cons file i 0 l) ∙ run_stop (get_or file i 0) (drop (suc i) file) w in
     record { is = omega (arith, s.is); onward = s.onward; inside = s.inside }
 
-pub run_over : (file : List ℕ) (at i : ℕ) → Running file at i → length file ≤ i → WordEnds file at i
+pub run_over : (file : List ℕ) (at i : ℕ) → Running file at i → length file ≤ i → WordEnds file at (length file)
 run_over file at i s h =
     let e : run (drop i file) ≡ 0 = ap run (drop_of_length-le file h) ∙ run_nil in
-    record { is = omega (arith, s.is); onward = s.onward; inside = s.inside }
+    let l : length file ≡ i = omega (arith, s.inside) in
+    rw l (record { is = omega (arith, s.is); onward = s.onward; inside = s.inside })
 
 -- the next field is the end of the file
-pub next_file : (file : List ℕ) (at start : ℕ) → Blanks file at start → length file ≤ start → Next file at file_kind start start
+pub next_file : (file : List ℕ) (at start : ℕ) → Blanks file at start → length file ≤ start → Next file at FileEnd start start
 unfolding fields_from
 next_file file at start b h =
     record {
@@ -114,7 +136,7 @@ next_file file at start b h =
     }
 
 -- the end of a line
-pub next_line : (file : List ℕ) (at start : ℕ) → Blanks file at start → start < length file → get_or file start 0 ≡ 10 → Next file at line_kind start (start + 1)
+pub next_line : (file : List ℕ) (at start : ℕ) → Blanks file at start → start < length file → get_or file start 0 ≡ 10 → Next file at LineEnd start (start + 1)
 unfolding fields_from
 next_line file at start b l e =
     rw (add-one start)
@@ -123,12 +145,12 @@ next_line file at start b l e =
       onward = b.onward;
       order = (omega arith);
       inside = (omega arith);
-      moves = λ m. omega arith;
+      moves = λ m. (let l : start < suc start = omega arith in l);
     })
 
 -- a word
 pub next_found : (file : List ℕ) (at start end : ℕ) → Blanks file at start → start < length file → (get_or file start 0 ≡ 10 → ⊥) → WordEnds file start end
-    → Next file at word_kind start end
+    → Next file at Word start end
 unfolding fields_from
 next_found file at start end b l n w =
     record {
@@ -136,7 +158,7 @@ next_found file at start end b l n w =
           b.fields
           ∙ (ap (cut 0 start) (drop-cons file start 0 l)
           ∙ (cut_word (get_or file start 0) (drop (suc start) file) start (b.seen l) (ne_eqb (get_or file start 0) 10 n)
-          ∙ (λ j. field word_kind start (sym w.is j) ∷ rest j)));
+          ∙ (λ j. field Word start (sym w.is j) ∷ rest j)));
       onward = b.onward;
       order = (let z = w.onward in omega arith);
       inside = w.inside;

@@ -22,13 +22,11 @@ use Rattle.lists.specs.declared.Found.TheVariants.{At, Nowhere}
 use Rattle.pen.specs.Writing.{Puts}
 use Rattle.pen.proofs.Puts.{puts_on}
 use Rattle.laying.specs.Laying.{number_bytes}
-use Rattle.classfile.specs.Heads.{judge_name, with_number, add_state, class_record}
+use Rattle.classfile.specs.Heads.{Judged, judge_name, with_number, add_state, class_record}
 use Rattle.classfile.specs.Reads.{Added}
 use Rattle.classfile.specs.declared.parts.Fault.{Fault}
 use Rattle.classfile.specs.declared.parts.Fault.TheVariants.{NoName, NameTwice, TooMany, NotListed}
-use Rattle.classfile.specs.declared.parts.Judged.{Judged}
-use Rattle.classfile.specs.declared.parts.Judged.TheVariants as J
-use Rattle.classfile.specs.declared.parts.Grown.TheVariants as G
+use Rattle.std.specs.Prelude.{Ok, Err}
 
 -- a name that was found is listed
 found_case : (a n : ℕ) → a ≡ n → (r : Found) (t : Bool) → r ≡ choose t (λ _. At a) (λ _. Nowhere) → (m : ℕ) → r ≡ At m → (t ≡ true) × (m ≡ n)
@@ -51,25 +49,25 @@ unfolding found_from listed_in number_in
 found_none records w r e f = none_case (0 + position records (padded w)) r (ltb (position records (padded w)) (length records)) e f
 
 module _ (size left : ℕ) (b w : List ℕ) where
-  pub no_name : is_name w ≡ false → J.Bad NoName ≡ judge_name size left b w
+  pub no_name : is_name w ≡ false → Err NoName ≡ judge_name size left b w
   unfolding judge_name
   no_name h = rw h
 
-  pub name_twice : is_name w ≡ true → (r : Found) → r ≡ found_from 0 (records_in size b) (padded w) → (m : ℕ) → r ≡ At m → J.Bad NameTwice ≡ judge_name size left b w
+  pub name_twice : is_name w ≡ true → (r : Found) → r ≡ found_from 0 (records_in size b) (padded w) → (m : ℕ) → r ≡ At m → Err NameTwice ≡ judge_name size left b w
   unfolding judge_name
   name_twice h r e m f = rw (h, (found_at (records_in size b) w r e m f).0)
 
-  pub no_room : is_name w ≡ true → (r : Found) → r ≡ found_from 0 (records_in size b) (padded w) → r ≡ Nowhere → left < size → J.Bad TooMany ≡ judge_name size left b w
+  pub no_room : is_name w ≡ true → (r : Found) → r ≡ found_from 0 (records_in size b) (padded w) → r ≡ Nowhere → left < size → Err TooMany ≡ judge_name size left b w
   unfolding judge_name
   no_room h r e f l = rw (h, found_none (records_in size b) w r e f, lt-ltb left size l)
 
-  pub name_fine : is_name w ≡ true → (r : Found) → r ≡ found_from 0 (records_in size b) (padded w) → r ≡ Nowhere → size ≤ left → J.Fine ≡ judge_name size left b w
+  pub name_fine : is_name w ≡ true → (r : Found) → r ≡ found_from 0 (records_in size b) (padded w) → r ≡ Nowhere → size ≤ left → Ok tt ≡ judge_name size left b w
   unfolding judge_name
   name_fine h r e f l = rw (h, found_none (records_in size b) w r e f, le-ltb left size l)
 
 -- a state of a class
 module _ (names : List ℕ) (set : ℕ) (w : List ℕ) (r : Found) (e : r ≡ found_from 0 (records_in 32 names) (padded w)) where
-  pub not_listed : r ≡ Nowhere → G.Bad NotListed ≡ add_state names set w
+  pub not_listed : r ≡ Nowhere → Err NotListed ≡ add_state names set w
   unfolding add_state
   not_listed f = rw (found_none (records_in 32 names) w r e f)
 
@@ -77,18 +75,18 @@ module _ (names : List ℕ) (set : ℕ) (w : List ℕ) (r : Found) (e : r ≡ fo
   unfolding add_state
   numbered m f = let (l, n) = found_at (records_in 32 names) w r e m f in rw (l, sym n)
 
-  pub number_past : (m : ℕ) → r ≡ At m → 31 < m → G.Bad TooMany ≡ add_state names set w
+  pub number_past : (m : ℕ) → r ≡ At m → 31 < m → Err TooMany ≡ add_state names set w
   unfolding with_number
   number_past m f h = (rw (lt-ltb 31 m h)) ∙ numbered m f
 
-  pub number_twice : (m : ℕ) → r ≡ At m → m ≤ 31 → has set m ≡ true → G.Bad NameTwice ≡ add_state names set w
+  pub number_twice : (m : ℕ) → r ≡ At m → m ≤ 31 → has set m ≡ true → Err NameTwice ≡ add_state names set w
   unfolding with_number
   number_twice m f h t = (rw (le-ltb 31 m h, t)) ∙ numbered m f
 
-  pub number_more : (m : ℕ) → r ≡ At m → m ≤ 31 → has set m ≡ false → G.To (bit_or set (1 * 2 ^ m % 2 ^ 32)) ≡ add_state names set w
+  pub number_more : (m : ℕ) → r ≡ At m → m ≤ 31 → has set m ≡ false → Ok (bit_or set (1 * 2 ^ m % 2 ^ 32)) ≡ add_state names set w
   unfolding with_number
   number_more m f h t =
-      ap (λ (x : ℕ). G.To (bit_or set x)) (shl_exact 1 m 32 (omega arith) (omega arith) ∙ one-mul (2 ^ m)) ∙ ((rw (le-ltb 31 m h, t)) ∙ numbered m f)
+      ap (λ (x : ℕ). Ok (bit_or set x)) (shl_exact 1 m 32 (omega arith) (omega arith) ∙ one-mul (2 ^ m)) ∙ ((rw (le-ltb 31 m h, t)) ∙ numbered m f)
 
 -- a class's record: its name's, and its set
 pub class_put : (name before next after : List ℕ) (set at end r : ℕ) → Puts (padded name) before at next end → Puts (number_bytes set) next end after r
@@ -97,12 +95,12 @@ unfolding class_record
 class_put name before next after set at end r p q = (puts_on p q).buffer
 
 -- a name that is fine goes behind the others
-pub name_added : (before after w : List ℕ) (used r : ℕ) (j : Judged) → j ≡ judge_name 32 (length before - used) (take used before) w → j ≡ J.Fine
-    → Puts (padded w) before used after r → Added before used w J.Fine after
+pub name_added : (before after w : List ℕ) (used r : ℕ) (j : Judged) → j ≡ judge_name 32 (length before - used) (take used before) w → j ≡ Ok tt
+    → Puts (padded w) before used after r → Added before used w (Ok tt) after
 name_added before after w used r j e f p = record { judged = sym f ∙ e; buffer = p.buffer }
 
-pub name_kept : (before w : List ℕ) (used : ℕ) (j : Judged) (x : Fault) → j ≡ judge_name 32 (length before - used) (take used before) w → j ≡ J.Bad x
-    → Added before used w (J.Bad x) before
+pub name_kept : (before w : List ℕ) (used : ℕ) (j : Judged) (x : Fault) → j ≡ judge_name 32 (length before - used) (take used before) w → j ≡ Err x
+    → Added before used w (Err x) before
 name_kept before w used j x e f = record { judged = sym f ∙ e; buffer = refl }
 
 -- as many bytes as are taken

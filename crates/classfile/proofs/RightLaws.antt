@@ -25,17 +25,15 @@ use Rattle.naming.specs.NameLists.{Lists, padded, record_right, records_in, none
 use Rattle.naming.proofs.TableLaws.{length_padded, padded_right}
 use Rattle.laying.specs.Laying.{number_bytes, entry}
 use Rattle.lists.specs.Lent.{lent, name_record}
-use Rattle.classfile.specs.Fields.{Field, line_kind, file_kind, fields_from}
+use Rattle.classfile.specs.declared.fields.Kind.{Kind}
+use Rattle.classfile.specs.Fields.{Field, is_line_end, is_file_end, fields_from}
 use Rattle.classfile.specs.Heads as H
-use Rattle.classfile.specs.Heads.{stretch, judge_name, with_number, add_state, class_record, Rooms, judged, grown, Outcome, read, wrong, reads, head_of}
+use Rattle.classfile.specs.Heads.{Judged, Grown, stretch, judge_name, with_number, add_state, class_record, Rooms, judged, grown, Outcome, read, wrong, reads, head_of}
 use Rattle.classfile.specs.declared.parts.Fault.TheVariants.{UnknownLine, LineTwice, NoStates, NoEmptyLine, NameTwice, TooMany, NotListed}
-use Rattle.classfile.specs.declared.parts.Judged.{Judged}
-use Rattle.classfile.specs.declared.parts.Judged.TheVariants as J
-use Rattle.classfile.specs.declared.parts.Grown.{Grown}
-use Rattle.classfile.specs.declared.parts.Grown.TheVariants as G
 use Rattle.classfile.specs.declared.heads.Line.{Line}
 use Rattle.classfile.specs.declared.heads.Line.TheVariants.{Begins, Names, Commands, Class, States}
 use Rattle.classfile.proofs.TurnLaws.{fine_is}
+use Rattle.std.specs.Prelude.{Ok, Err}
 
 -- the last of the entries from 0 on
 listed_last : {A : Type 0} (k : ℕ) (f : ℕ → A) → listed 0 (suc k) f ≡ listed 0 k f ++ (f k ∷ [])
@@ -266,21 +264,21 @@ pub record Numbered (names : List ℕ) (set more : ℕ) : Type 0 where
   pub is : more ≡ bit_or set (2 ^ number)
 
 number_case : (names : List ℕ) (set n more : ℕ) (a b : Bool) → n < length (records_in 32 names) → ltb 31 n ≡ a
-    → choose a (λ _. G.Bad TooMany) (λ _. choose b (λ _. G.Bad NameTwice) λ _. G.To (bit_or set (2 ^ n))) ≡ G.To more → Numbered names set more
+    → choose a (λ _. Err TooMany) (λ _. choose b (λ _. Err NameTwice) λ _. Ok (bit_or set (2 ^ n))) ≡ Ok more → Numbered names set more
 number_case names set n more true b l e h = absurd (clash cc)
 number_case names set n more false true l e h = absurd (clash cc)
 number_case names set n more false false l e h =
-    record { number = n; listed = l; small = (let z = ltb-false 31 n e in omega arith); is = (let z : G.To (bit_or set (2 ^ n)) ≡ G.To more = h in cc) }
+    record { number = n; listed = l; small = (let z = ltb-false 31 n e in omega arith); is = (let z : Ok (bit_or set (2 ^ n)) ≡ Ok more = h in cc) }
 
 state_case : (names : List ℕ) (set more : ℕ) (w : List ℕ) (t : Bool) → listed_in (records_in 32 names) w ≡ t
-    → choose t (λ _. with_number set (number_in (records_in 32 names) w)) (λ _. G.Bad NotListed) ≡ G.To more → Numbered names set more
+    → choose t (λ _. with_number set (number_in (records_in 32 names) w)) (λ _. Err NotListed) ≡ Ok more → Numbered names set more
 unfolding with_number listed_in
 state_case names set more w true e h =
     number_case names set (number_in (records_in 32 names) w) more (ltb 31 (number_in (records_in 32 names) w)) (has set (number_in (records_in 32 names) w))
     (ltb-true (number_in (records_in 32 names) w) (length (records_in 32 names)) e) refl h
 state_case names set more w false e h = absurd (clash cc)
 
-state_is : (names : List ℕ) (set more : ℕ) (w : List ℕ) → add_state names set w ≡ G.To more → Numbered names set more
+state_is : (names : List ℕ) (set more : ℕ) (w : List ℕ) → add_state names set w ≡ Ok more → Numbered names set more
 unfolding add_state
 state_is names set more w h = state_case names set more w (listed_in (records_in 32 names) w) refl h
 
@@ -308,7 +306,7 @@ module _ (file : List ℕ) (room : Rooms) (l : Lists) where
   -- a word of the names line, of the commands line
   name_right : (w : List ℕ) (left : ℕ) → Right file Names l → (j : Judged) → judge_name 32 left l.names w ≡ j
       → Rightly file (judged j λ _. H.on Names (lent (l.names ++ padded w) l.commands l.classes))
-  name_right w left r J.Fine e =
+  name_right w left r (Ok tt) e =
       let f = fine_is 32 left l.names w e in
       let z = length_padded w f.name in
       record {
@@ -321,11 +319,11 @@ module _ (file : List ℕ) (room : Rooms) (l : Lists) where
         sets = every_wider r.n (listed 0 r.k (set_at l.classes)) r.sets;
         coming = tt;
       }
-  name_right w left r (J.Bad x) e = tt
+  name_right w left r (Err x) e = tt
 
   command_right : (w : List ℕ) (left : ℕ) → Right file Commands l → (j : Judged) → judge_name 32 left l.commands w ≡ j
       → Rightly file (judged j λ _. H.on Commands (lent l.names (l.commands ++ padded w) l.classes))
-  command_right w left r J.Fine e =
+  command_right w left r (Ok tt) e =
       let f = fine_is 32 left l.commands w e in
       let z = length_padded w f.name in
       record {
@@ -338,19 +336,19 @@ module _ (file : List ℕ) (room : Rooms) (l : Lists) where
         sets = r.sets;
         coming = tt;
       }
-  command_right w left r (J.Bad x) e = tt
+  command_right w left r (Err x) e = tt
 
   -- a class's name, and its states
   class_right : (start end left : ℕ) → Right file Class l → (j : Judged) → judge_name 36 left l.classes (stretch file start end) ≡ j
       → Rightly file (judged j λ _. H.on (States start end 0) l)
-  class_right start end left r J.Fine e =
+  class_right start end left r (Ok tt) e =
       let f = fine_is 36 left l.classes (stretch file start end) e in
       in_line Class (States start end 0) r (λ n. (f.name, f.new, bits_zero n, omega arith))
-  class_right start end left r (J.Bad x) e = tt
+  class_right start end left r (Err x) e = tt
 
   state_right : (a b set : ℕ) (w : List ℕ) → Right file (States a b set) l → (g : Grown) → add_state l.names set w ≡ g
       → Rightly file (grown g λ more. H.on (States a b more) l)
-  state_right a b set w r (G.To more) e =
+  state_right a b set w r (Ok more) e =
       let q = state_is l.names set more w e in
       let d : length (records_in 32 l.names) ≡ r.n =
       ap length (rows_in 32 l.names r.n (omega arith) r.names.whole) ∙ length_listed 0 r.n (name_record 32 l.names) in
@@ -371,7 +369,7 @@ module _ (file : List ℕ) (room : Rooms) (l : Lists) where
           subst (λ (t : ℕ). t < 2 ^ 32) (sym q.is) (or_lt 32 set (2 ^ q.number) s (pow-lt q.small)),
         );
       }
-  state_right a b set w r (G.Bad x) e = tt
+  state_right a b set w r (Err x) e = tt
 
   word_right : (start end : ℕ) (line : Line) → Right file line l → Rightly file (H.word_turn file room start end line l)
   unfolding H.word_turn
@@ -415,9 +413,9 @@ module _ (file : List ℕ) (room : Rooms) (l : Lists) where
       go true = tt
       go false = ended_right a b set r
 
-  turn_right : (kind start end : ℕ) (line : Line) → Right file line l → Rightly file (H.turn file room kind start end line l)
+  turn_right : (kind : Kind) (start end : ℕ) (line : Line) → Right file line l → Rightly file (H.turn file room kind start end line l)
   unfolding H.turn
-  turn_right kind start end line r = go (eqb kind line_kind)
+  turn_right kind start end line r = go (is_line_end kind)
     where
       go : (t : Bool) → Rightly file (choose t (λ _. H.line_turn file room line l) (λ _. H.word_turn file room start end line l))
       go true = line_right line r
@@ -433,7 +431,7 @@ after_right file (H.bad x) l m start end at next r h go e = absurd (clash cc)
 reads_right : (file : List ℕ) (room : Rooms) (fs : List Field) (line : Line) (l m : Lists) (at : ℕ) → Right file line l → reads file room line l fs ≡ read m at → lists_right m ≡ true
 unfolding reads
 reads_right file room [] line l m at r e = absurd (clash cc)
-reads_right file room (f ∷ fs) line l m at r e = go (eqb f.kind file_kind) e (λ next k q. reads_right file room fs next k m at q)
+reads_right file room (f ∷ fs) line l m at r e = go (is_file_end f.kind) e (λ next k q. reads_right file room fs next k m at q)
   where
     go : (t : Bool)
         → choose t (λ _. wrong NoEmptyLine f.start f.end l)

@@ -8,7 +8,7 @@ use mathlib.Core.List.{List, ◌++◌}
 use lib.Dec.{eqb, ltb, leb}
 use lib.ListN.{length, take, drop, length-take, length-drop, length-append}
 use lib.Seq.{sets, sets-eq, take_at, drop_at, length-sets, length-take-le}
-use borrow.Author.Tests.{ltb-false, leb-true, ne_eqb, eq-eqb}
+use borrow.Author.Tests.{ltb-false, leb-true}
 use Rattle.model.specs.Words.{choose, every, listed}
 use Rattle.model.proofs.Words.{clash, and_left, and_right}
 use Rattle.model.proofs.Lists.{length_listed}
@@ -18,19 +18,17 @@ use Rattle.naming.proofs.TableLaws.{length_padded}
 use Rattle.laying.specs.Laying.{number_bytes, entry}
 use Rattle.lists.specs.Lent.{lent}
 use Rattle.classfile.specs.Heads as H
-use Rattle.classfile.specs.Heads.{stretch, judge_name, add_state, class_record, Rooms, judged, grown}
-use Rattle.classfile.specs.Reads.{begun, used, Added, Named, Commanded, classed, stated, on_judged, on_grown, ended, ended_buffer, lined, lined_buffer, Fits, Stands, shown, Turned, rooms, Worded, FieldTurned}
+use Rattle.classfile.specs.Heads.{Judged, Grown, stretch, judge_name, add_state, class_record, Rooms, judged, grown}
+use Rattle.classfile.specs.Reads.{Turn, on_line, begun, used, Added, Named, Commanded, classed, stated, on_judged, on_grown, ended, ended_buffer, lined, lined_buffer, Fits, Stands, shown, Turned, rooms, Worded, FieldTurned}
+use Rattle.classfile.specs.declared.fields.Kind.{Kind}
+use Rattle.classfile.specs.declared.fields.Kind.TheVariants.{LineEnd}
 use Rattle.classfile.specs.declared.parts.Fault.{Fault}
 use Rattle.classfile.specs.declared.parts.Fault.TheVariants.{UnknownLine, LineTwice, NoName, NameTwice, TooMany, NoClass, NoStates}
-use Rattle.classfile.specs.declared.parts.Judged.{Judged}
-use Rattle.classfile.specs.declared.parts.Judged.TheVariants as J
-use Rattle.classfile.specs.declared.parts.Grown.{Grown}
-use Rattle.classfile.specs.declared.parts.Grown.TheVariants as G
 use Rattle.classfile.specs.declared.heads.Used.{Used}
 use Rattle.classfile.specs.declared.heads.Line.{Line}
 use Rattle.classfile.specs.declared.heads.Line.TheVariants.{Begins, Names, Commands, Class, States}
-use Rattle.classfile.specs.declared.heads.Turn.{Turn}
-use Rattle.classfile.specs.declared.heads.Turn.TheVariants.{On, Over, Bad}
+use Rattle.std.specs.Prelude.{Ok, Err, None}
+use Rattle.classfile.proofs.FieldLaws.{line_end, no_line_end}
 
 -- what is known of a word that is fine
 pub record Fine (size left : ℕ) (b w : List ℕ) : Type 0 where
@@ -39,13 +37,13 @@ pub record Fine (size left : ℕ) (b w : List ℕ) : Type 0 where
   pub room : size ≤ left
 
 fine_case : (size left : ℕ) (b w : List ℕ) (s t r : Bool) → is_name w ≡ s → listed_in (records_in size b) w ≡ t → ltb left size ≡ r
-    → choose s (λ _. choose t (λ _. J.Bad NameTwice) λ _. choose r (λ _. J.Bad TooMany) λ _. J.Fine) (λ _. J.Bad NoName) ≡ J.Fine → Fine size left b w
+    → ◌≡◌ {A = Judged} (choose s (λ _. choose t (λ _. Err NameTwice) λ _. choose r (λ _. Err TooMany) λ _. Ok tt) (λ _. Err NoName)) (Ok tt) → Fine size left b w
 fine_case size left b w true true r e f g h = absurd (clash cc)
 fine_case size left b w true false true e f g h = absurd (clash cc)
 fine_case size left b w true false false e f g h = record { name = e; new = f; room = ltb-false left size g }
 fine_case size left b w false t r e f g h = absurd (clash cc)
 
-pub fine_is : (size left : ℕ) (b w : List ℕ) → judge_name size left b w ≡ J.Fine → Fine size left b w
+pub fine_is : (size left : ℕ) (b w : List ℕ) → judge_name size left b w ≡ Ok tt → Fine size left b w
 unfolding judge_name
 fine_is size left b w h = fine_case size left b w (is_name w) (listed_in (records_in size b) w) (ltb left size) refl refl refl h
 
@@ -78,10 +76,10 @@ length_class name set h =
 
 module _ (file : List ℕ) (u : Used) (n c k : List ℕ) (f : Fits u n c k) where
   -- nothing is written
-  on_still : (line : Line) → Stands file line u k → Turned file (H.on line (shown u n c k)) u n c k (On line u) n c k
+  on_still : (line : Line) → Stands file line u k → Turned file (H.on line (shown u n c k)) u n c k (on_line line u) n c k
   on_still line s = record { says = refl; kept = record { names = (omega arith, refl); commands = (omega arith, refl); classes = (omega arith, refl) }; going = (f, s) }
 
-  bad_still : (x : Fault) → Turned file (H.bad x) u n c k (Bad x) n c k
+  bad_still : (x : Fault) → Turned file (H.bad x) u n c k (Err x) n c k
   bad_still x = record { says = refl; kept = record { names = refl; commands = refl; classes = refl }; going = tt }
 
   -- the first word of a line
@@ -97,8 +95,8 @@ module _ (file : List ℕ) (u : Used) (n c k : List ℕ) (f : Fits u n c k) wher
           choose b (λ _. choose q (λ _. H.bad LineTwice) (λ _. H.on Commands (shown u n c k))) λ _.
           choose d (λ _. H.on Class (shown u n c k)) λ _. H.bad UnknownLine)
           u n c k
-          (choose a (λ _. choose p (λ _. Bad LineTwice) (λ _. On Names u)) λ _.
-          choose b (λ _. choose q (λ _. Bad LineTwice) (λ _. On Commands u)) λ _. choose d (λ _. On Class u) λ _. Bad UnknownLine)
+          (choose a (λ _. choose p (λ _. Err LineTwice) (λ _. on_line Names u)) λ _.
+          choose b (λ _. choose q (λ _. Err LineTwice) (λ _. on_line Commands u)) λ _. choose d (λ _. on_line Class u) λ _. Err UnknownLine)
           n c k
       go true b d true q = bad_still LineTwice
       go true b d false q = on_still Names tt
@@ -112,19 +110,19 @@ module _ (file : List ℕ) (u : Used) (n c k : List ℕ) (f : Fits u n c k) wher
   first_turned start end line r e g = rw (e, g) (first_still (stretch file start end))
 
   -- a word that is judged and nothing is written for
-  judged_still : (line : Line) (j : Judged) → (j ≡ J.Fine → Stands file line u k)
-      → Turned file (judged j λ _. H.on line (shown u n c k)) u n c k (on_judged j (On line u)) n c k
-  judged_still line J.Fine s = on_still line (s refl)
-  judged_still line (J.Bad x) s = bad_still x
+  judged_still : (line : Line) (j : Judged) → (j ≡ Ok tt → Stands file line u k)
+      → Turned file (judged j λ _. H.on line (shown u n c k)) u n c k (on_judged j (on_line line u)) n c k
+  judged_still line (Ok tt) s = on_still line (s refl)
+  judged_still line (Err x) s = bad_still x
 
   -- a word of the names line
   name_go : (w n' : List ℕ) (j : Judged) → Added n u.names w j n'
       → Turned file
       (judged j λ _. H.on Names (lent (take u.names n ++ padded w) (take u.commands c) (take u.classes k)))
       u n c k
-      (on_judged j (On Names (used (u.names + 32) u.commands u.classes)))
+      (on_judged j (on_line Names (used (u.names + 32) u.commands u.classes)))
       n' c k
-  name_go w n' J.Fine a =
+  name_go w n' (Ok tt) a =
       let good = fine_is 32 (length n - u.names) (take u.names n) w (sym a.judged) in
       let room = good.room in
       let fits = f.names in
@@ -136,7 +134,7 @@ module _ (file : List ℕ) (u : Used) (n c k : List ℕ) (f : Fits u n c k) wher
         kept = record { names = (omega arith, ap (drop (u.names + 32)) b ∙ d); commands = (omega arith, refl); classes = (omega arith, refl) };
         going = (record { names = (omega arith); commands = f.commands; classes = f.classes }, tt);
       }
-  name_go w n' (J.Bad x) a = record { says = refl; kept = record { names = a.buffer; commands = refl; classes = refl }; going = tt }
+  name_go w n' (Err x) a = record { says = refl; kept = record { names = a.buffer; commands = refl; classes = refl }; going = tt }
 
   pub name_turned : (start end : ℕ) (line : Line) (r : Turn) (n' : List ℕ) → line ≡ Names → Named u n (stretch file start end) r n'
       → Worded file start end line u n c k r n' c
@@ -149,9 +147,9 @@ module _ (file : List ℕ) (u : Used) (n c k : List ℕ) (f : Fits u n c k) wher
       → Turned file
       (judged j λ _. H.on Commands (lent (take u.names n) (take u.commands c ++ padded w) (take u.classes k)))
       u n c k
-      (on_judged j (On Commands (used u.names (u.commands + 32) u.classes)))
+      (on_judged j (on_line Commands (used u.names (u.commands + 32) u.classes)))
       n c' k
-  command_go w c' J.Fine a =
+  command_go w c' (Ok tt) a =
       let good = fine_is 32 (length c - u.commands) (take u.commands c) w (sym a.judged) in
       let room = good.room in
       let fits = f.commands in
@@ -163,7 +161,7 @@ module _ (file : List ℕ) (u : Used) (n c k : List ℕ) (f : Fits u n c k) wher
         kept = record { names = (omega arith, refl); commands = (omega arith, ap (drop (u.commands + 32)) b ∙ d); classes = (omega arith, refl) };
         going = (record { names = f.names; commands = (omega arith); classes = f.classes }, tt);
       }
-  command_go w c' (J.Bad x) a = record { says = refl; kept = record { names = refl; commands = a.buffer; classes = refl }; going = tt }
+  command_go w c' (Err x) a = record { says = refl; kept = record { names = refl; commands = a.buffer; classes = refl }; going = tt }
 
   pub command_turned : (start end : ℕ) (line : Line) (r : Turn) (c' : List ℕ) → line ≡ Commands → Commanded u c (stretch file start end) r c'
       → Worded file start end line u n c k r n c'
@@ -173,7 +171,7 @@ module _ (file : List ℕ) (u : Used) (n c k : List ℕ) (f : Fits u n c k) wher
 
   -- a class's name
   class_stands : (start end : ℕ) → start ≤ end → end ≤ length file
-      → judge_name 36 (length k - u.classes) (take u.classes k) (stretch file start end) ≡ J.Fine → Stands file (States start end 0) u k
+      → judge_name 36 (length k - u.classes) (take u.classes k) (stretch file start end) ≡ Ok tt → Stands file (States start end 0) u k
   class_stands start end o i e =
       let good = fine_is 36 (length k - u.classes) (take u.classes k) (stretch file start end) e in
       let room = good.room in
@@ -192,9 +190,9 @@ module _ (file : List ℕ) (u : Used) (n c k : List ℕ) (f : Fits u n c k) wher
 
   -- a state of a class
   grown_still : (a b : ℕ) (g : Grown) → ((more : ℕ) → Stands file (States a b more) u k)
-      → Turned file (grown g λ more. H.on (States a b more) (shown u n c k)) u n c k (on_grown g (λ more. On (States a b more) u)) n c k
-  grown_still a b (G.To more) s = on_still (States a b more) (s more)
-  grown_still a b (G.Bad x) s = bad_still x
+      → Turned file (grown g λ more. H.on (States a b more) (shown u n c k)) u n c k (on_grown g (λ more. on_line (States a b more) u)) n c k
+  grown_still a b (Ok more) s = on_still (States a b more) (s more)
+  grown_still a b (Err x) s = bad_still x
 
   pub state_turned : (start end : ℕ) (line : Line) (r : Turn) (a b set : ℕ) → line ≡ States a b set → Stands file line u k
       → r ≡ stated u n (stretch file start end) a b set → Worded file start end line u n c k r n c
@@ -203,13 +201,13 @@ module _ (file : List ℕ) (u : Used) (n c k : List ℕ) (f : Fits u n c k) wher
       rw (e, g)
       (grown_still a b (add_state (take u.names n) set (stretch file start end)) (λ more. subst (λ (x : Line). Stands file x u k) e s))
 
-  over_still : Turned file H.over u n c k Over n c k
+  over_still : Turned file H.over u n c k (Ok None) n c k
   over_still = record { says = refl; kept = record { names = refl; commands = refl; classes = refl }; going = tt }
 
   -- the end of a class's line
   class_ended : (name : List ℕ) (set : ℕ) → length name ≤ 31 → u.classes + 36 ≤ length k
       → Turned file (H.on Begins (lent (take u.names n) (take u.commands c) (take u.classes k ++ class_record name set))) u n c k
-      (On Begins (used u.names u.commands (u.classes + 36))) n c (sets k u.classes (class_record name set))
+      (on_line Begins (used u.names u.commands (u.classes + 36))) n c (sets k u.classes (class_record name set))
   class_ended name set s h =
       let (t, d) = grows k (class_record name set) u.classes 36 (length_class name set s) h in
       let m : length (sets k u.classes (class_record name set)) ≡ length k = length-sets k u.classes (class_record name set) in
@@ -235,19 +233,19 @@ module _ (file : List ℕ) (u : Used) (n c k : List ℕ) (f : Fits u n c k) wher
           → Turned file
           (choose t (λ _. H.bad NoStates) λ _. H.on Begins (lent (take u.names n) (take u.commands c) (take u.classes k ++ class_record (stretch file a b) set)))
           u n c k
-          (choose t (λ _. Bad NoStates) (λ _. On Begins (used u.names u.commands (u.classes + 36))))
+          (choose t (λ _. Err NoStates) (λ _. on_line Begins (used u.names u.commands (u.classes + 36))))
           n c
           (choose t (λ _. k) (λ _. sets k u.classes (class_record (stretch file a b) set)))
       go true = bad_still NoStates
       go false = class_ended (stretch file a b) set short s.3
 
   -- a field
-  pub line_turned : (kind start end : ℕ) (line : Line) (r : Turn) (k' : List ℕ) → kind ≡ 1 → Stands file line u k
+  pub line_turned : (kind : Kind) (start end : ℕ) (line : Line) (r : Turn) (k' : List ℕ) → kind ≡ LineEnd → Stands file line u k
       → (r ≡ lined line u) × (k' ≡ lined_buffer file line u k) → FieldTurned file kind start end line u n c k r n c k'
   unfolding H.turn
-  line_turned kind start end line r k' e s (a, b) = rw (eq-eqb kind 1 e, a, b) (line_go line s)
+  line_turned kind start end line r k' e s (a, b) = rw (line_end kind e, a, b) (line_go line s)
 
-pub word_turned : (file : List ℕ) (kind start end : ℕ) (line : Line) (u : Used) (n c k : List ℕ) (r : Turn) (n' c' : List ℕ) → (kind ≡ 1 → ⊥)
+pub word_turned : (file : List ℕ) (kind : Kind) (start end : ℕ) (line : Line) (u : Used) (n c k : List ℕ) (r : Turn) (n' c' : List ℕ) → (kind ≡ LineEnd → ⊥)
     → Worded file start end line u n c k r n' c' → FieldTurned file kind start end line u n c k r n' c' k
 unfolding H.turn
-word_turned file kind start end line u n c k r n' c' e w = rw (ne_eqb kind 1 e) w
+word_turned file kind start end line u n c k r n' c' e w = rw (no_line_end kind e) w

@@ -1,20 +1,17 @@
 -- The head of a class file: lines of names, of commands and of child classes, up to an empty line. The lists that it gives are those that
 -- the class text is read with.
 -- Assumes nothing.
-use Rattle.std.specs.Prelude.{ℕ, ◌-◌, ◌^◌, List, [], ◌∷◌, ◌++◌, eqb, ltb, length, take, drop}
+use Rattle.std.specs.Prelude.{ℕ, Result, Ok, Err, ◌-◌, ◌^◌, List, [], ◌∷◌, ◌++◌, eqb, ltb, length, take, drop}
 use Rattle.std.specs.Int.Bits.{bit_or}
 use Rattle.model.specs.Words.{choose, has}
 use Rattle.grammar.specs.Words.{spelled, same, is_name}
 use Rattle.naming.specs.NameLists.{Lists, padded, records_in, number_in, listed_in}
 use Rattle.lists.specs.Lent.{lent}
 use Rattle.laying.specs.Laying.{number_bytes}
-use Rattle.classfile.specs.Fields.{Field, line_kind, file_kind, fields_from}
+use Rattle.classfile.specs.Fields.{Field, is_line_end, is_file_end, fields_from}
+use Rattle.classfile.specs.declared.fields.Kind.{Kind}
 use Rattle.classfile.specs.declared.parts.Fault.{Fault}
 use Rattle.classfile.specs.declared.parts.Fault.TheVariants.{UnknownLine, LineTwice, NoName, NameTwice, TooMany, NotListed, NoClass, NoStates, NoEmptyLine}
-use Rattle.classfile.specs.declared.parts.Judged.{Judged}
-use Rattle.classfile.specs.declared.parts.Judged.TheVariants as J
-use Rattle.classfile.specs.declared.parts.Grown.{Grown}
-use Rattle.classfile.specs.declared.parts.Grown.TheVariants as G
 use Rattle.classfile.specs.declared.heads.Line.{Line}
 use Rattle.classfile.specs.declared.heads.Line.TheVariants.{Begins, Names, Commands, Class, States}
 
@@ -22,20 +19,27 @@ use Rattle.classfile.specs.declared.heads.Line.TheVariants.{Begins, Names, Comma
 abbrev pub stretch : List ℕ → ℕ → ℕ → List ℕ
 stretch file start end = take (end - start) (drop start file)
 
+-- whether a word can stand in its list; a class's set with one state more; or what is wrong
+abbrev pub Judged : Type 0
+Judged = Result (Unit {0}) Fault
+
+abbrev pub Grown : Type 0
+Grown = Result ℕ Fault
+
 -- whether a word can be the next name of a list, in records of that many bytes, where so many bytes are left for it
 unfoldable pub judge_name : ℕ → ℕ → List ℕ → List ℕ → Judged
 judge_name size left b w =
     choose (is_name w)
-    (λ _. choose (listed_in (records_in size b) w) (λ _. J.Bad NameTwice) λ _. choose (ltb left size) (λ _. J.Bad TooMany) λ _. J.Fine)
-    (λ _. J.Bad NoName)
+    (λ _. choose (listed_in (records_in size b) w) (λ _. Err NameTwice) λ _. choose (ltb left size) (λ _. Err TooMany) λ _. Ok tt)
+    (λ _. Err NoName)
 
 -- the set with that number, once
 unfoldable pub with_number : ℕ → ℕ → Grown
-with_number set n = choose (ltb 31 n) (λ _. G.Bad TooMany) λ _. choose (has set n) (λ _. G.Bad NameTwice) λ _. G.To (bit_or set (2 ^ n))
+with_number set n = choose (ltb 31 n) (λ _. Err TooMany) λ _. choose (has set n) (λ _. Err NameTwice) λ _. Ok (bit_or set (2 ^ n))
 
 -- the set with the number that the word has among the names
 unfoldable pub add_state : List ℕ → ℕ → List ℕ → Grown
-add_state names set w = choose (listed_in (records_in 32 names) w) (λ _. with_number set (number_in (records_in 32 names) w)) (λ _. G.Bad NotListed)
+add_state names set w = choose (listed_in (records_in 32 names) w) (λ _. with_number set (number_in (records_in 32 names) w)) (λ _. Err NotListed)
 
 -- the record of a class: its name's, and its set
 unfoldable pub class_record : List ℕ → ℕ → List ℕ
@@ -48,12 +52,12 @@ pub data Turn : Type 0 where
   bad : Fault → Turn
 
 abbrev pub judged : Judged → (Unit {0} → Turn) → Turn
-judged J.Fine t = t tt
-judged (J.Bad x) t = bad x
+judged (Ok tt) t = t tt
+judged (Err x) t = bad x
 
 abbrev pub grown : Grown → (ℕ → Turn) → Turn
-grown (G.To set) t = t set
-grown (G.Bad x) t = bad x
+grown (Ok set) t = t set
+grown (Err x) t = bad x
 
 -- a line that may stand once
 unfoldable pub once : Line → List ℕ → Lists → Turn
@@ -99,8 +103,8 @@ module _ (file : List ℕ) (room : Rooms) where
   line_turn (States a b set) l =
       choose (eqb set 0) (λ _. bad NoStates) λ _. on Begins (lent l.names l.commands (l.classes ++ class_record (stretch file a b) set))
 
-  unfoldable pub turn : ℕ → ℕ → ℕ → Line → Lists → Turn
-  turn kind start end line l = choose (eqb kind line_kind) (λ _. line_turn line l) (λ _. word_turn start end line l)
+  unfoldable pub turn : Kind → ℕ → ℕ → Line → Lists → Turn
+  turn kind start end line l = choose (is_line_end kind) (λ _. line_turn line l) (λ _. word_turn start end line l)
 
 -- a head with its lists, and where the class text starts; or what is wrong, the place that shows it, and the lists so far
 pub data Outcome : Type 0 where
@@ -115,7 +119,7 @@ after (bad x) l start end go = wrong x start end l
 unfoldable pub reads : List ℕ → Rooms → Line → Lists → List Field → Outcome
 reads file room line l [] = wrong NoEmptyLine 0 0 l
 reads file room line l (f ∷ fs) =
-    choose (eqb f.kind file_kind) (λ _. wrong NoEmptyLine f.start f.end l) λ _.
+    choose (is_file_end f.kind) (λ _. wrong NoEmptyLine f.start f.end l) λ _.
     after (turn file room f.kind f.start f.end line l) l f.start f.end (λ next m. reads file room next m fs)
 
 -- the head of a file

@@ -3,32 +3,35 @@ ghost use Rattle.std.specs.Prelude.{◌≡◌, ◌≤◌, ◌<◌, length};
 ghost use Rattle.classfile.specs.Fields.{blank, white, Blanks, WordEnds, Next};
 
 // What a field is.
-pub const WORD: u8 = 0;
-
-pub const LINE: u8 = 1;
-
-pub const FILE: u8 = 2;
+#[derive(Clone, Copy)]
+pub enum Kind {
+    Word,
+    LineEnd,
+    FileEnd,
+}
 
 // A field: which it is, and where it starts and ends.
 #[derive(Clone, Copy)]
 pub struct Field {
-    pub kind: u8,
+    pub kind: Kind,
     pub start: usize,
     pub end: usize,
 }
 
 // White space within a line: blank, tab, carriage return.
+#[tactic(auto, unfolding(crate::specs::Fields::blank))]
 fn is_blank(b: u8) -> bool
     ensures { result ≡ blank b }
 {
-    (b == 32) | ((b == 9) | (b == 13))
+    b == b' ' || (b == b'\t' || b == b'\r')
 }
 
 // White space, or the end of a line.
+#[tactic(auto, unfolding(crate::specs::Fields::white))]
 fn is_white(b: u8) -> bool
     ensures { result ≡ white b }
 {
-    (b == 10) | is_blank(b)
+    b == b'\n' || is_blank(b)
 }
 
 // The place of the next byte that is no white space within a line, or the end.
@@ -36,14 +39,12 @@ fn skip_blanks(file: &[u8], at: usize) -> usize
     requires { at ≤ length file.now }
     ensures { Blanks file.now at result }
 {
-    let mut i = at;
-    while i < file.len() {
+    for i in at..file.len() {
         if !is_blank(file[i]) {
             return i;
         }
-        i = i + 1;
     }
-    i
+    file.len()
 }
 
 // The end of the word that stands at a place.
@@ -51,14 +52,12 @@ fn word_end(file: &[u8], at: usize) -> usize
     requires { at < length file.now }
     ensures { WordEnds file.now at result }
 {
-    let mut i = at + 1;
-    while i < file.len() {
+    for i in at + 1..file.len() {
         if is_white(file[i]) {
             return i;
         }
-        i = i + 1;
     }
-    i
+    file.len()
 }
 
 // The next field from a place on.
@@ -69,21 +68,21 @@ pub fn next_field(file: &[u8], at: usize) -> Field
     let start = skip_blanks(file, at);
     if file.len() <= start {
         return Field {
-            kind: FILE,
-            start: start,
+            kind: Kind::FileEnd,
+            start,
             end: start,
         };
     }
-    if file[start] == 10 {
+    if file[start] == b'\n' {
         return Field {
-            kind: LINE,
-            start: start,
+            kind: Kind::LineEnd,
+            start,
             end: start + 1,
         };
     }
     Field {
-        kind: WORD,
-        start: start,
+        kind: Kind::Word,
+        start,
         end: word_end(file, start),
     }
 }

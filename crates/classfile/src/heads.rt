@@ -2,8 +2,8 @@
 ghost use Rattle.std.specs.Prelude.{◌≡◌, ◌+◌, ◌≤◌, length};
 ghost use Rattle.classfile.specs.Reads.{alone, begun, Named, Commanded, classed, stated, ended, ended_buffer, lined, lined_buffer, Fits, Stands, Worded, FieldTurned, HeadRead, Inside};
 
-use crate::fields::{FILE, LINE, next_field};
-use crate::parts::{Fault, Grown, Judged, add_class, add_name, add_state, judge_name};
+use crate::fields::{Kind, next_field};
+use crate::parts::{Fault, add_class, add_name, add_state, judge_name};
 use kinds::is_same;
 
 // Room for the records of 32 names, 64 commands and 8 classes.
@@ -32,20 +32,15 @@ pub struct Used {
     pub classes: usize,
 }
 
-// What a field comes to: the head goes on in that line, it is over, or something is wrong.
-#[derive(Clone, Copy)]
-pub enum Turn {
-    On(Line, Used),
-    Over,
-    Bad(Fault),
-}
+// What a field comes to: the head goes on in that line, with so much used, or it is over; or something is wrong.
+pub type Turn = Result<Option<(Line, Used)>, Fault>;
 
-// A head: the lists that it gives, and where the class text starts; or what is wrong, and the word that shows it, by its place. The end of
-// a line or of the file can show it too.
+// What is wrong with a head, and the word that shows it, by its place. The end of a line or of the file can show it too.
 #[derive(Clone, Copy)]
-pub enum HeadAnswer {
-    Read(Used, usize),
-    Bad(Fault, usize, usize),
+pub struct BadLine {
+    pub fault: Fault,
+    pub start: usize,
+    pub end: usize,
 }
 
 // A line that may stand once begins; so many bytes of its list are used.
@@ -53,9 +48,9 @@ fn once(line: Line, bytes: usize, used: Used) -> Turn
     ensures { result ≡ alone line bytes used }
 {
     if 0 < bytes {
-        return Turn::Bad(Fault::LineTwice);
+        return Err(Fault::LineTwice);
     }
-    Turn::On(line, used)
+    Ok(Some((line, used)))
 }
 
 // The first word of a line.
@@ -69,9 +64,9 @@ fn first_word(used: Used, word: &[u8]) -> Turn
         return once(Line::Commands, used.commands, used);
     }
     if is_same(b"class", word) {
-        return Turn::On(Line::Class, used);
+        return Ok(Some((Line::Class, used)));
     }
-    Turn::Bad(Fault::UnknownLine)
+    Err(Fault::UnknownLine)
 }
 
 // A word of the names line.
@@ -79,15 +74,12 @@ fn name_word(used: Used, names: &mut [u8], word: &[u8]) -> Turn
     requires { used.names ≤ length names.old }
     ensures { Named used names.old word.now result names.new }
 {
-    let judged = add_name(names, used.names, word);
-    match judged {
-        Judged::Fine => {
-            let mut more = used;
-            more.names = used.names + 32;
-            Turn::On(Line::Names, more)
-        }
-        Judged::Bad(x) => Turn::Bad(x),
-    }
+    add_name(names, used.names, word)?;
+    let more = Used {
+        names: used.names + 32,
+        ..used
+    };
+    Ok(Some((Line::Names, more)))
 }
 
 // A word of the commands line.
@@ -95,15 +87,12 @@ fn command_word(used: Used, commands: &mut [u8], word: &[u8]) -> Turn
     requires { used.commands ≤ length commands.old }
     ensures { Commanded used commands.old word.now result commands.new }
 {
-    let judged = add_name(commands, used.commands, word);
-    match judged {
-        Judged::Fine => {
-            let mut more = used;
-            more.commands = used.commands + 32;
-            Turn::On(Line::Commands, more)
-        }
-        Judged::Bad(x) => Turn::Bad(x),
-    }
+    add_name(commands, used.commands, word)?;
+    let more = Used {
+        commands: used.commands + 32,
+        ..used
+    };
+    Ok(Some((Line::Commands, more)))
 }
 
 // The name of a class, which stands at a place.
@@ -112,11 +101,8 @@ fn class_word(used: Used, classes: &[u8], word: &[u8], start: usize, end: usize)
     ensures { result ≡ classed used classes.now word.now start end }
 {
     let n = used.classes;
-    let judged = judge_name(&classes[..n], 36, classes.len() - n, word);
-    match judged {
-        Judged::Fine => Turn::On(Line::States(start, end, 0), used),
-        Judged::Bad(x) => Turn::Bad(x),
-    }
+    judge_name(&classes[..n], 36, classes.len() - n, word)?;
+    Ok(Some((Line::States(start, end, 0), used)))
 }
 
 // A state of the class whose name stands at a place and whose set is this so far.
@@ -125,11 +111,8 @@ fn state_word(used: Used, names: &[u8], word: &[u8], start: usize, end: usize, s
     ensures { result ≡ stated used names.now word.now start end set }
 {
     let n = used.names;
-    let grown = add_state(&names[..n], set, word);
-    match grown {
-        Grown::To(more) => Turn::On(Line::States(start, end, more), used),
-        Grown::Bad(x) => Turn::Bad(x),
-    }
+    let more = add_state(&names[..n], set, word)?;
+    Ok(Some((Line::States(start, end, more), used)))
 }
 
 // A word, which stands at a place.
@@ -164,12 +147,14 @@ fn class_ends(used: Used, classes: &mut [u8], name: &[u8], set: u32) -> Turn
     ensures { (result ≡ ended used set) × (classes.new ≡ ended_buffer used name.now set classes.old) }
 {
     if set == 0 {
-        return Turn::Bad(Fault::NoStates);
+        return Err(Fault::NoStates);
     }
     add_class(classes, used.classes, name, set);
-    let mut more = used;
-    more.classes = used.classes + 36;
-    Turn::On(Line::Begins, more)
+    let more = Used {
+        classes: used.classes + 36,
+        ..used
+    };
+    Ok(Some((Line::Begins, more)))
 }
 
 // The end of a line; that of an empty line ends the head.
@@ -178,10 +163,9 @@ fn line_turn(file: &[u8], line: Line, used: Used, classes: &mut [u8]) -> Turn
     ensures { (result ≡ lined line used) × (classes.new ≡ lined_buffer file.now line used classes.old) }
 {
     match line {
-        Line::Begins => Turn::Over,
-        Line::Names => Turn::On(Line::Begins, used),
-        Line::Commands => Turn::On(Line::Begins, used),
-        Line::Class => Turn::Bad(Fault::NoClass),
+        Line::Begins => Ok(None),
+        Line::Names | Line::Commands => Ok(Some((Line::Begins, used))),
+        Line::Class => Err(Fault::NoClass),
         Line::States(a, b, set) => class_ends(used, classes, &file[a..b], set),
     }
 }
@@ -189,7 +173,7 @@ fn line_turn(file: &[u8], line: Line, used: Used, classes: &mut [u8]) -> Turn
 // A field of the head.
 fn field_turn(
     file: &[u8],
-    kind: u8,
+    kind: Kind,
     start: usize,
     end: usize,
     line: Line,
@@ -203,7 +187,7 @@ fn field_turn(
     requires stands { Stands file.now line used classes.old }
     ensures { FieldTurned file.now kind start end line used names.old commands.old classes.old result names.new commands.new classes.new }
 {
-    if kind == LINE {
+    if let Kind::LineEnd = kind {
         return line_turn(file, line, used, classes);
     }
     word_turn(file, start, end, line, used, names, commands, classes)
@@ -215,7 +199,7 @@ pub fn read_head(
     names: &mut [u8],
     commands: &mut [u8],
     classes: &mut [u8],
-) -> HeadAnswer
+) -> Result<(Used, usize), BadLine>
     ensures inside { Inside result file.now names.new commands.new classes.new }
     ensures head_read { HeadRead file.now names.old commands.old classes.old result names.new commands.new classes.new }
 {
@@ -230,22 +214,30 @@ pub fn read_head(
         let field = next_field(file, at);
         let start = field.start;
         at = field.end;
-        if field.kind == FILE {
-            return HeadAnswer::Bad(Fault::NoEmptyLine, start, at);
+        if let Kind::FileEnd = field.kind {
+            return Err(BadLine {
+                fault: Fault::NoEmptyLine,
+                start,
+                end: at,
+            });
         }
         let turned = field_turn(
             file, field.kind, start, at, line, used, names, commands, classes,
         );
         match turned {
-            Turn::On(next, more) => {
+            Ok(Some((next, more))) => {
                 line = next;
                 used = more;
             }
-            Turn::Over => {
-                return HeadAnswer::Read(used, at);
+            Ok(None) => {
+                return Ok((used, at));
             }
-            Turn::Bad(x) => {
-                return HeadAnswer::Bad(x, start, at);
+            Err(fault) => {
+                return Err(BadLine {
+                    fault,
+                    start,
+                    end: at,
+                });
             }
         }
     }

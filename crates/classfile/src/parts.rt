@@ -24,69 +24,51 @@ pub enum Fault {
     NoEmptyLine,
 }
 
-// Whether a word can stand in its list.
-#[derive(Clone, Copy)]
-pub enum Judged {
-    Fine,
-    Bad(Fault),
-}
-
-// A class's set with one state more.
-#[derive(Clone, Copy)]
-pub enum Grown {
-    To(u32),
-    Bad(Fault),
-}
-
-// Whether a word can be the next name of a list, in records of that many bytes, where so many bytes are left for it.
-pub fn judge_name(list: &[u8], size: usize, left: usize, word: &[u8]) -> Judged
+// A word can be the next name of a list, in records of that many bytes, where so many bytes are left for it.
+pub fn judge_name(list: &[u8], size: usize, left: usize, word: &[u8]) -> Result<(), Fault>
     requires { 32 ≤ size }
     ensures { result ≡ judge_name size left list.now word.now }
 {
     if !is_name(word) {
-        return Judged::Bad(Fault::NoName);
+        return Err(Fault::NoName);
     }
     let found = number_in(list, size, word);
     if let Found::At(_) = found {
-        return Judged::Bad(Fault::NameTwice);
+        return Err(Fault::NameTwice);
     }
     if left < size {
-        return Judged::Bad(Fault::TooMany);
+        return Err(Fault::TooMany);
     }
-    Judged::Fine
+    Ok(())
 }
 
 // A word behind the names of a list, of which so many bytes are used.
-pub fn add_name(list: &mut [u8], used: usize, word: &[u8]) -> Judged
+pub fn add_name(list: &mut [u8], used: usize, word: &[u8]) -> Result<(), Fault>
     requires { used ≤ length list.old }
     ensures { Added list.old used word.now result list.new }
 {
     let left = list.len() - used;
-    let judged = judge_name(&list[..used], 32, left, word);
-    match judged {
-        Judged::Fine => {
-            put_name(list, used, word);
-            Judged::Fine
-        }
-        Judged::Bad(x) => Judged::Bad(x),
-    }
+    judge_name(&list[..used], 32, left, word)?;
+    put_name(list, used, word);
+    Ok(())
 }
 
 // A state of a class: its number among the names goes into the class's set.
-pub fn add_state(names: &[u8], set: u32, word: &[u8]) -> Grown
+pub fn add_state(names: &[u8], set: u32, word: &[u8]) -> Result<u32, Fault>
     ensures { result ≡ add_state names.now set word.now }
 {
     let found = number_in(names, 32, word);
     let Found::At(n) = found else {
-        return Grown::Bad(Fault::NotListed);
+        return Err(Fault::NotListed);
     };
     if 31 < n {
-        return Grown::Bad(Fault::TooMany);
+        return Err(Fault::TooMany);
     }
     if has_name(set, ChildName(n as u8)) {
-        return Grown::Bad(Fault::NameTwice);
+        Err(Fault::NameTwice)
+    } else {
+        Ok(set | (1 << n))
     }
-    Grown::To(set | (1 << n))
 }
 
 // A class's record behind those of a list: its name's, and its set.

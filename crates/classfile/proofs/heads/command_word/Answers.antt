@@ -1,8 +1,11 @@
+use Rattle.std.proofs.lemmas.Result.{err_from_is_err_and}
 use Rattle.classfile.proofs.HeadLaws.{commanded_fine, commanded_bad}
 use Rattle.classfile.proofs.heads.command_word.Goals as goal
 
-pub returns-in-Fine : goal.returns-in-Fine
-returns-in-Fine c = commanded_fine _ _ _ _ _ c.add_name-judged.ensures c.in-Fine.is
+pub returns-in_err-add_name : goal.returns-in_err-add_name
+returns-in_err-add_name c =
+    let p = err_from_is_err_and c.from_residual.result c.from_residual.ensures.1 in
+    rw (p.1, p.2) (commanded_bad _ _ _ _ _ c.add_name.ensures _ c.in_err-add_name.was)
 
-pub returns-in-Bad : goal.returns-in-Bad
-returns-in-Bad c = commanded_bad _ _ _ _ _ c.add_name-judged.ensures _ c.in-Bad.is
+pub returns : goal.returns
+returns c = commanded_fine _ _ _ _ _ c.add_name.ensures c.in_ok-add_name.was

@@ -1,3 +1,4 @@
+use mathlib.Core.Logic.{inl, inr}
 use Rattle.classfile.proofs.HeadLaws.{line_as, stands_as, line_ends}
 use Rattle.classfile.specs.Reads.{lined, lined_buffer}
 use Rattle.classfile.proofs.heads.line_turn.Goals as goal
@@ -20,11 +21,7 @@ returns-in-Begins c = line_as _ _ _ _ _ c.in-Begins.is
 
 pub returns-in-Names : goal.returns-in-Names
 unfolding lined lined_buffer
-returns-in-Names c = line_as _ _ _ _ _ c.in-Names.is
-
-pub returns-in-Commands : goal.returns-in-Commands
-unfolding lined lined_buffer
-returns-in-Commands c = line_as _ _ _ _ _ c.in-Commands.is
+returns-in-Names c = elim c.in-Names.is [ inl e ↦ line_as _ _ _ _ _ e | inr e ↦ line_as _ _ _ _ _ e ]
 
 pub returns-in-Class : goal.returns-in-Class
 unfolding lined lined_buffer

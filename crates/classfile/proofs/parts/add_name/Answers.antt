@@ -1,12 +1,14 @@
-use Rattle.classfile.proofs.PartLaws.{counted}
-use Rattle.classfile.proofs.PartLaws.{name_added, name_kept}
+use Rattle.std.proofs.lemmas.Result.{err_from_is_err_and}
+use Rattle.classfile.proofs.PartLaws.{counted, name_added, name_kept}
 use Rattle.classfile.proofs.parts.add_name.Goals as goal
 
 pub slice_bounds-judge_name-end-2 : goal.slice_bounds-judge_name-end-2
 slice_bounds-judge_name-end-2 c = counted _ _ c.requires
 
-pub returns-in-Fine : goal.returns-in-Fine
-returns-in-Fine c = name_added _ _ _ _ _ _ c.judge_name-judged.ensures c.in-Fine.is c.put_name.ensures
+pub returns-in_err-judge_name : goal.returns-in_err-judge_name
+returns-in_err-judge_name c =
+    let p = err_from_is_err_and c.from_residual.result c.from_residual.ensures.1 in
+    rw (p.1, p.2) (name_kept _ _ _ _ _ c.judge_name.ensures c.in_err-judge_name.was)
 
-pub returns-in-Bad : goal.returns-in-Bad
-returns-in-Bad c = name_kept _ _ _ _ _ c.judge_name-judged.ensures c.in-Bad.is
+pub returns : goal.returns
+returns c = name_added _ _ _ _ _ _ c.judge_name.ensures c.in_ok-judge_name.was c.put_name.ensures

@@ -12,5 +12,5 @@ returns-then-n-gt31 c = number_past _ _ _ _ c.number_in-found.ensures _ c.in-At.
 pub returns-then-has_name : goal.returns-then-has_name
 returns-then-has_name c = number_twice _ _ _ _ c.number_in-found.ensures _ c.in-At.is (omega arith) (sym c.has_name.ensures ∙ c.if-has_name.true)
 
-pub returns : goal.returns
-returns c = number_more _ _ _ _ c.number_in-found.ensures _ c.in-At.is (omega arith) (sym c.has_name.ensures ∙ c.if-has_name.false)
+pub returns-else-has_name : goal.returns-else-has_name
+returns-else-has_name c = number_more _ _ _ _ c.number_in-found.ensures _ c.in-At.is (omega arith) (sym c.has_name.ensures ∙ c.if-has_name.false)
