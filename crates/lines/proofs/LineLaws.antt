@@ -23,6 +23,17 @@ use Rattle.texts.proofs.Decimals.{decimal_length}
 use Rattle.texts.proofs.Appending.{appended_same}
 use Rattle.lines.specs.Lines.{refused_word, do_word, loop_word, free_word, said, empty_field, string_field, text_of, phase_text, handled_text, command_text, loop_text, one_case, child_field, child_fields, is_loop, loopcheck_line}
 
+-- a word and numbers, and one number more; after the last one all are said
+pub said_more : (word ns : List ℕ) (i : ℕ) → i < length ns → said word (take i ns) ++ number_text (get_or ns i 0) ≡ said word (take (i + 1) ns)
+unfolding said
+said_more word [] i h = absurd (omega arith)
+said_more word (n ∷ ns) zero h = refl
+said_more word (n ∷ ns) (suc i) h =
+    let d : suc i + 1 ≡ suc (i + 1) = omega arith in rw d (said_more (word ++ number_text n) ns i (omega arith))
+
+pub said_all : (word ns : List ℕ) (i : ℕ) → length ns ≤ i → said word (take i ns) ≡ said word ns
+said_all word ns i h = ap (said word) (take_all i ns h)
+
 -- a refusal has the same text whatever was asked
 refusal_text : (words : List (List ℕ)) (n : ℕ) → 1 ≤ n → text_of words (n ∷ []) ≡ said refused_word (n ∷ [])
 unfolding text_of

@@ -17,43 +17,22 @@ pub fn bad_line(out: &mut [u8]) -> usize
     append_bytes(out, 0, b"bad line")
 }
 
-// A word and a number.
-pub fn say_one(out: &mut [u8], at: usize, word: &[u8], x: u64) -> usize
-    ensures { Appended out.old out.new at (said word.now (x ∷ [])) result }
+// A word and numbers.
+pub fn say(out: &mut [u8], at: usize, word: &[u8], numbers: &[u64]) -> usize
+    ensures { Appended out.old out.new at (said word.now numbers.now) result }
 {
-    let end = append_bytes(out, at, word);
-    append_number(out, end, x)
-}
-
-// A word and two numbers.
-pub fn say_two(out: &mut [u8], at: usize, word: &[u8], x: u64, y: u64) -> usize
-    ensures { Appended out.old out.new at (said word.now (x ∷ y ∷ [])) result }
-{
-    let end = say_one(out, at, word, x);
-    append_number(out, end, y)
-}
-
-// A word and three numbers.
-fn say_three(out: &mut [u8], at: usize, word: &[u8], x: u64, y: u64, z: u64) -> usize
-    ensures { Appended out.old out.new at (said word.now (x ∷ y ∷ z ∷ [])) result }
-{
-    let end = say_two(out, at, word, x, y);
-    append_number(out, end, z)
-}
-
-// A word and four numbers.
-fn say_four(out: &mut [u8], at: usize, word: &[u8], x: u64, y: u64, z: u64, last: u64) -> usize
-    ensures { Appended out.old out.new at (said word.now (x ∷ y ∷ z ∷ last ∷ [])) result }
-{
-    let end = say_three(out, at, word, x, y, z);
-    append_number(out, end, last)
+    let mut end = append_bytes(out, at, word);
+    for n in numbers {
+        end = append_number(out, end, *n);
+    }
+    end
 }
 
 // refused NUMBER
 pub fn refused(x: Refusal, out: &mut [u8]) -> usize
     ensures { Appended out.old out.new 0 (said refused_word (number_of x ∷ [])) result }
 {
-    say_one(out, 0, b"refused", u64::from(x))
+    say(out, 0, b"refused", &[u64::from(x)])
 }
 
 // A further field with nothing to say: a space, then `-`.
@@ -67,7 +46,7 @@ fn append_empty(out: &mut [u8], at: usize) -> usize
 pub fn append_string(out: &mut [u8], at: usize, bytes: &[u8]) -> usize
     ensures { Appended out.old out.new at (string_field bytes.now) result }
 {
-    if bytes.len() == 0 {
+    if bytes.is_empty() {
         return append_empty(out, at);
     }
     let next = append_byte(out, at, b' ');
@@ -89,9 +68,9 @@ fn clause_line(i: usize, referrer: Referrer, out: &mut [u8]) -> usize
     ensures { Appended out.old out.new 0 (said clause_word (i ∷ referrer_values (referrer_as referrer))) result }
 {
     match referrer {
-        Referrer::MoveTo(q) => say_three(out, 0, b"clause", i as u64, 0, q.0 as u64),
-        Referrer::Do(a) => say_three(out, 0, b"clause", i as u64, 1, a as u64),
-        Referrer::Stay => say_three(out, 0, b"clause", i as u64, 2, 0),
+        Referrer::MoveTo(q) => say(out, 0, b"clause", &[i as u64, 0, q.0 as u64]),
+        Referrer::Do(a) => say(out, 0, b"clause", &[i as u64, 1, a as u64]),
+        Referrer::Stay => say(out, 0, b"clause", &[i as u64, 2, 0]),
     }
 }
 
@@ -126,7 +105,7 @@ fn append_unclosed(
 ) -> usize
     ensures { Appended out.old out.new at (said ending.now (q.0 ∷ moves ∷ written ∷ []) ++ empty_field) result }
 {
-    let end = say_three(out, at, ending, q.0 as u64, moves as u64, written as u64);
+    let end = say(out, at, ending, &[q.0 as u64, moves as u64, written as u64]);
     append_empty(out, end)
 }
 
@@ -144,14 +123,11 @@ fn append_settled(
     match ending {
         Ending::ByNone => append_unclosed(out, at, b"none", q, moves, written),
         Ending::ByStay => append_unclosed(out, at, b"stay", q, moves, written),
-        Ending::ByDo(c) => say_four(
+        Ending::ByDo(c) => say(
             out,
             at,
             b"do",
-            q.0 as u64,
-            moves as u64,
-            written as u64,
-            c as u64,
+            &[q.0 as u64, moves as u64, written as u64, c as u64],
         ),
     }
 }
@@ -191,8 +167,8 @@ fn handled_line(handling: Handling, out: &mut [u8]) -> usize
     ensures { Appended out.old out.new 0 (handled_text (0 ∷ handled_values handling)) result }
 {
     match handling {
-        Handling::Ignored(q) => say_two(out, 0, b"ignored", q.0 as u64, 0),
-        Handling::Handled(q, n) => say_two(out, 0, b"handled", q.0 as u64, n as u64),
+        Handling::Ignored(q) => say(out, 0, b"ignored", &[q.0 as u64, 0]),
+        Handling::Handled(q, n) => say(out, 0, b"handled", &[q.0 as u64, n as u64]),
     }
 }
 
@@ -216,7 +192,11 @@ fn handling_line(answer: Result<(Handling, Phase), Refusal>, out: &mut [u8]) -> 
 }
 
 // The same, and the whole buffer
-pub fn command_line(answer: Result<(Handling, Phase), Refusal>, lent: &[u8], out: &mut [u8]) -> usize
+pub fn command_line(
+    answer: Result<(Handling, Phase), Refusal>,
+    lent: &[u8],
+    out: &mut [u8],
+) -> usize
     ensures { Appended out.old out.new 0 (command_line (command_numbers answer) lent.now) result }
 {
     let end = handling_line(answer, out);
@@ -228,8 +208,8 @@ fn looped_line(loops: Loops, out: &mut [u8]) -> usize
     ensures { Appended out.old out.new 0 (loop_text (0 ∷ looped_values loops)) result }
 {
     match loops {
-        Loops::Loop(k, q) => say_two(out, 0, b"loop", k as u64, q.0 as u64),
-        Loops::Free(moves) => say_one(out, 0, b"free", moves as u64),
+        Loops::Loop(k, q) => say(out, 0, b"loop", &[k as u64, q.0 as u64]),
+        Loops::Free(moves) => say(out, 0, b"free", &[moves as u64]),
     }
 }
 

@@ -13,4 +13,4 @@ unfolding text_of
 returns-in-ByStay c = rw c.in-ByStay.is c.append_unclosed-in-ByStay.ensures
 
 pub returns-in-ByDo : goal.returns-in-ByDo
-returns-in-ByDo c = rw c.in-ByDo.is (phase_closed _ _ _ _ _ _ _ _ c.say_four.ensures)
+returns-in-ByDo c = rw c.in-ByDo.is (phase_closed _ _ _ _ _ _ _ _ c.say.ensures)

@@ -4,4 +4,4 @@ use Rattle.texts.proofs.Appending.{appended_then}
 use Rattle.lines.proofs.answers.append_unclosed.Goals as goal
 
 pub returns : goal.returns
-returns c = appended_then _ _ _ _ _ _ _ _ c.say_three-end.ensures c.append_empty.ensures
+returns c = appended_then _ _ _ _ _ _ _ _ c.say-end.ensures c.append_empty.ensures

@@ -1,4 +1,4 @@
--- A refusal and what the loop question gives have their texts.
+-- A refusal has its text.
 -- Assumes nothing.
 use Rattle.lines.proofs.LineLaws.{told_refused}
 use Rattle.lines.proofs.answers.looping_line.Goals as goal
@@ -6,6 +6,3 @@ use Rattle.lines.proofs.answers.looping_line.Goals as goal
 pub returns-in-Err : goal.returns-in-Err
 returns-in-Err c =
     rw c.in-Err.is (told_refused _ _ _ _ c.in-Err.x c.refused.ensures)
-
-pub returns-in-Ok : goal.returns-in-Ok
-returns-in-Ok c = rw c.in-Ok.is c.looped_line.ensures

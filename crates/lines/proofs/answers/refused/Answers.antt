@@ -3,4 +3,4 @@
 use Rattle.lines.proofs.answers.refused.Goals as goal
 
 pub returns : goal.returns
-returns c = rw (← c.from.ensures) c.say_one.ensures
+returns c = rw (← c.from.ensures) c.say.ensures
