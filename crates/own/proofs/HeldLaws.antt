@@ -14,16 +14,15 @@ use Rattle.model.proofs.Lists.{listed_more, listed_same}
 use Rattle.grammar.specs.Grammar.{Name}
 use Rattle.words.specs.Scanning.{stretch}
 use Rattle.own.specs.Ahead.{names_from}
-use Rattle.own.specs.declared.Named.{Named}
-use Rattle.own.specs.declared.Named.TheVariants.{At, Nowhere}
+use Rattle.std.specs.Prelude.{Option, Some, None}
 use Rattle.own.specs.Held.{Here, NextNamed, held, all_names, Places, Holds, Filling, Filled}
 
 -- what an answer tells
-module _ (text : List ℕ) (kind stop at : ℕ) (r : Named) (n : NextNamed text kind stop at r) where
-  pub named_here : (start end : ℕ) → r ≡ At start end → Here text kind stop at start end
+module _ (text : List ℕ) (kind stop at : ℕ) (r : Option (ℕ × ℕ)) (n : NextNamed text kind stop at r) where
+  pub named_here : (start end : ℕ) → r ≡ Some (start, end) → Here text kind stop at start end
   named_here start end e = rw e at n
 
-  pub named_nowhere : r ≡ Nowhere → names_from text kind stop at ≡ []
+  pub named_nowhere : r ≡ None → names_from text kind stop at ≡ []
   named_nowhere e = rw e at n
 
 -- behind a name less is left

@@ -14,8 +14,7 @@ use Rattle.model.proofs.Lists.{length_listed}
 use Rattle.grammar.specs.Grammar.{Name}
 use Rattle.grammar.specs.Words.{same, position}
 use Rattle.lists.specs.Lent.{found_from}
-use Rattle.lists.specs.declared.Found.{Found}
-use Rattle.lists.specs.declared.Found.TheVariants.{At, Nowhere}
+use Rattle.std.specs.Prelude.{Option, Some, None}
 use Rattle.lists.proofs.TableLaws.{found_head, found_tail, found_none, found_at, found_nowhere}
 use Rattle.naming.specs.NameLists.{none_twice}
 use Rattle.naming.specs.Known.{among}
@@ -29,11 +28,11 @@ pub record Going (text : List ℕ) (kind stop at : ℕ) (word : List ℕ) (first
   pub fewer : i ≤ from
 
 module _ (text : List ℕ) (kind stop at : ℕ) (word : List ℕ) (first i from : ℕ) (g : Going text kind stop at word first i from) where
-  pub going_over : names_from text kind stop from ≡ [] → Nowhere ≡ found_from first (names_from text kind stop at) word
+  pub going_over : names_from text kind stop from ≡ [] → None ≡ found_from first (names_from text kind stop at) word
   going_over e = sym (g.told ∙ ap (λ (ns : List Name). found_from i ns word) e ∙ found_none i word)
 
   module _ (start end : ℕ) (h : Here text kind stop from start end) (t : Bool) (e : t ≡ same (stretch text start end) word) where
-    pub going_found : t ≡ true → At i ≡ found_from first (names_from text kind stop at) word
+    pub going_found : t ≡ true → Some i ≡ found_from first (names_from text kind stop at) word
     going_found f =
         sym (g.told ∙ ap (λ (ns : List Name). found_from i ns word) h.names
         ∙ found_head i (stretch text start end) (names_from text kind stop end) word (sym e ∙ f))
@@ -48,31 +47,31 @@ module _ (text : List ℕ) (kind stop at : ℕ) (word : List ℕ) (first i from 
         }
 
 -- in the first list, or else in the second
-pub found_first : (xs ys : List Name) (k : ℕ) (w : List ℕ) (i : ℕ) → found_from k xs w ≡ At i → found_from k (xs ++ ys) w ≡ At i
+pub found_first : (xs ys : List Name) (k : ℕ) (w : List ℕ) (i : ℕ) → found_from k xs w ≡ Some i → found_from k (xs ++ ys) w ≡ Some i
 found_first [] ys k w i e = absurd (clash (cc (found_none k w)))
 found_first (x ∷ xs) ys k w i e = go (same x w) refl (found_first xs ys (k + 1) w i)
   where
-    go : (b : Bool) → same x w ≡ b → (found_from (k + 1) xs w ≡ At i → found_from (k + 1) (xs ++ ys) w ≡ At i) → found_from k (x ∷ xs ++ ys) w ≡ At i
+    go : (b : Bool) → same x w ≡ b → (found_from (k + 1) xs w ≡ Some i → found_from (k + 1) (xs ++ ys) w ≡ Some i) → found_from k (x ∷ xs ++ ys) w ≡ Some i
     go true h r = found_head k x (xs ++ ys) w h ∙ sym (found_head k x xs w h) ∙ e
     go false h r = found_tail k x (xs ++ ys) w h ∙ r (sym (found_tail k x xs w h) ∙ e)
 
-pub found_second : (xs ys : List Name) (k n : ℕ) (w : List ℕ) → n ≡ k + length xs → found_from k xs w ≡ Nowhere → found_from k (xs ++ ys) w ≡ found_from n ys w
+pub found_second : (xs ys : List Name) (k n : ℕ) (w : List ℕ) → n ≡ k + length xs → found_from k xs w ≡ None → found_from k (xs ++ ys) w ≡ found_from n ys w
 found_second [] ys k n w l e = ap (λ (m : ℕ). found_from m ys w) (let z : k ≡ n = omega arith in z)
 found_second (x ∷ xs) ys k n w l e = go (same x w) refl (found_second xs ys (k + 1) n w (omega arith))
   where
-    go : (b : Bool) → same x w ≡ b → (found_from (k + 1) xs w ≡ Nowhere → found_from (k + 1) (xs ++ ys) w ≡ found_from n ys w)
+    go : (b : Bool) → same x w ≡ b → (found_from (k + 1) xs w ≡ None → found_from (k + 1) (xs ++ ys) w ≡ found_from n ys w)
         → found_from k (x ∷ xs ++ ys) w ≡ found_from n ys w
     go true h r = absurd (clash (cc (found_head k x xs w h)))
     go false h r = found_tail k x (xs ++ ys) w h ∙ r (sym (found_tail k x xs w h) ∙ e)
 
 -- in a table, or else behind it
 module _ (text table : List ℕ) (count kind stop rest : ℕ) (w : List ℕ) where
-  pub number_held : (r : Found) → r ≡ found_from 0 (listed 0 count (held text table)) w → (i : ℕ) → r ≡ At i
-      → At i ≡ found_from 0 (all_names text table count kind stop rest) w
+  pub number_held : (r : Option ℕ) → r ≡ found_from 0 (listed 0 count (held text table)) w → (i : ℕ) → r ≡ Some i
+      → Some i ≡ found_from 0 (all_names text table count kind stop rest) w
   unfolding all_names
   number_held r e i f = sym (found_first (listed 0 count (held text table)) (names_from text kind stop rest) 0 w i (sym e ∙ f))
 
-  pub number_behind : (r : Found) → r ≡ found_from 0 (listed 0 count (held text table)) w → r ≡ Nowhere → (s : Found) → s ≡ found_from count (names_from text kind stop rest) w
+  pub number_behind : (r : Option ℕ) → r ≡ found_from 0 (listed 0 count (held text table)) w → r ≡ None → (s : Option ℕ) → s ≡ found_from count (names_from text kind stop rest) w
       → s ≡ found_from 0 (all_names text table count kind stop rest) w
   unfolding all_names
   number_behind r e f s g =
@@ -84,12 +83,12 @@ module _ (ns : List Name) (text : List ℕ) (kind stop from : ℕ) where
   unfolding every
   none_over e = rw e
 
-  module _ (start end : ℕ) (h : Here text kind stop from start end) (r : Found) (e : r ≡ found_from 0 ns (stretch text start end)) where
-    pub none_broken : (i : ℕ) → r ≡ At i → every (none_of ns) (names_from text kind stop from) ≡ false
+  module _ (start end : ℕ) (h : Here text kind stop from start end) (r : Option ℕ) (e : r ≡ found_from 0 ns (stretch text start end)) where
+    pub none_broken : (i : ℕ) → r ≡ Some i → every (none_of ns) (names_from text kind stop from) ≡ false
     unfolding every none_of among
     none_broken i f = rw (h.names, (found_at 0 ns (stretch text start end) i (sym e ∙ f)).0)
 
-    pub none_on : r ≡ Nowhere → every (none_of ns) (names_from text kind stop from) ≡ every (none_of ns) (names_from text kind stop end)
+    pub none_on : r ≡ None → every (none_of ns) (names_from text kind stop from) ≡ every (none_of ns) (names_from text kind stop end)
     unfolding every none_of among
     none_on f = rw (h.names, found_nowhere 0 ns (stretch text start end) (sym e ∙ f))
 

@@ -1,13 +1,11 @@
 -- The places of the first names, held in a table, and what the functions that look names up promise.
 -- Assumes nothing.
-use Rattle.std.specs.Prelude.{ℕ, ◌+◌, ◌*◌, ◌/◌, ◌<◌, ◌≤◌, ◌≡◌, Bool, not, List, [], ◌∷◌, ◌++◌, length, get_or}
+use Rattle.std.specs.Prelude.{ℕ, ◌+◌, ◌*◌, ◌/◌, ◌<◌, ◌≤◌, ◌≡◌, Bool, not, Option, Some, None, List, [], ◌∷◌, ◌++◌, length, get_or}
 use Rattle.model.specs.Words.{listed}
 use Rattle.grammar.specs.Grammar.{Name}
 use Rattle.naming.specs.Known.{among}
 use Rattle.words.specs.Scanning.{stretch}
 use Rattle.own.specs.Ahead.{names_from}
-use Rattle.own.specs.declared.Named.{Named}
-use Rattle.own.specs.declared.Named.TheVariants.{At, Nowhere}
 
 -- neither kind is that of names, and the first is no kind of end
 pub record Kinds (kind stop : ℕ) : Type 0 where
@@ -23,9 +21,9 @@ pub record Here (text : List ℕ) (kind stop at start end : ℕ) : Type 0 where
   pub inside : end ≤ length text
 
 -- the next name, or that there is none
-abbrev pub NextNamed : List ℕ → ℕ → ℕ → ℕ → Named → Type 0
-NextNamed text kind stop at (At start end) = Here text kind stop at start end
-NextNamed text kind stop at Nowhere = names_from text kind stop at ≡ []
+abbrev pub NextNamed : List ℕ → ℕ → ℕ → ℕ → Option (ℕ × ℕ) → Type 0
+NextNamed text kind stop at (Some (start, end)) = Here text kind stop at start end
+NextNamed text kind stop at None = names_from text kind stop at ≡ []
 
 -- name i of a table: where it starts and where it ends
 abbrev pub held : List ℕ → List ℕ → ℕ → Name

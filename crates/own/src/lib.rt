@@ -9,18 +9,10 @@ ghost use Rattle.own.specs.Ahead.{names_from};
 ghost use Rattle.own.specs.Held.{Kinds, NextNamed, held, all_names, Places, Holds, Filled};
 
 use kinds::is_same;
-use lists::Found;
 use words::next_word;
 
-// Where the next name starts and ends, or that there is none.
-#[derive(Clone, Copy)]
-pub enum Named {
-    At(usize, usize),
-    Nowhere,
-}
-
-// The next name from a place on that stands behind a word of the kind.
-pub fn next_named(text: &[u8], at: usize, kind: u8, stop: u8) -> Named
+// Where the next name from a place on that stands behind a word of the kind starts and ends, or that there is none.
+pub fn next_named(text: &[u8], at: usize, kind: u8, stop: u8) -> Option<(usize, usize)>
     requires { Kinds kind stop }
     ensures { NextNamed text.now kind stop at result }
 {
@@ -28,15 +20,15 @@ pub fn next_named(text: &[u8], at: usize, kind: u8, stop: u8) -> Named
     loop {
         let word = next_word(text, i);
         if (word.kind == stop) | (word.kind == 26) {
-            return Named::Nowhere;
+            return None;
         }
         i = word.end;
         if word.kind == kind {
             let name = next_word(text, i);
             if name.kind == 0 {
-                return Named::At(name.start, name.end);
+                return Some((name.start, name.end));
             }
-            return Named::At(i, i);
+            return Some((i, i));
         }
     }
 }
@@ -54,29 +46,16 @@ pub fn hold(text: &[u8], at: usize, kind: u8, stop: u8, table: &mut [usize]) -> 
     ensures { Filled text.now table.new kind stop at result.count result.rest }
 {
     let room = table.len() / 2;
-    let mut count = 0;
     let mut rest = at;
-    while count < room {
-        let named = next_named(text, rest, kind, stop);
-        match named {
-            Named::At(start, end) => {
-                table[2 * count] = start;
-                table[2 * count + 1] = end;
-                count = count + 1;
-                rest = end;
-            }
-            Named::Nowhere => {
-                return Holding {
-                    count: count,
-                    rest: rest,
-                };
-            }
-        }
+    for count in 0..room {
+        let Some((start, end)) = next_named(text, rest, kind, stop) else {
+            return Holding { count, rest };
+        };
+        table[2 * count] = start;
+        table[2 * count + 1] = end;
+        rest = end;
     }
-    Holding {
-        count: count,
-        rest: rest,
-    }
+    Holding { count: room, rest }
 }
 
 // Name i of a table.
@@ -90,42 +69,33 @@ pub fn name_held<'a>(text: &'a [u8], table: &[usize], count: usize, i: usize) ->
 }
 
 // The number of a word among the names that a table holds.
-pub fn among_held(text: &[u8], table: &[usize], count: usize, word: &[u8]) -> Found
+pub fn among_held(text: &[u8], table: &[usize], count: usize, word: &[u8]) -> Option<usize>
     requires { Places text.now table.now count }
     ensures { result ≡ found_from 0 (listed 0 count (held text.now table.now)) word.now }
 {
-    let mut i = 0;
-    while i < count {
+    for i in 0..count {
         if is_same(name_held(text, table, count, i), word) {
-            return Found::At(i);
+            return Some(i);
         }
-        i = i + 1;
     }
-    Found::Nowhere
+    None
 }
 
 // The number of a word among the names from a place on, the first of which has the number `first`.
-pub fn ahead(text: &[u8], at: usize, kind: u8, stop: u8, word: &[u8], first: usize) -> Found
+pub fn ahead(text: &[u8], at: usize, kind: u8, stop: u8, word: &[u8], first: usize) -> Option<usize>
     requires { Kinds kind stop × (first ≤ at) }
     ensures { result ≡ found_from first (names_from text.now kind stop at) word.now }
 {
     let mut i = first;
     let mut from = at;
-    loop {
-        let named = next_named(text, from, kind, stop);
-        match named {
-            Named::At(start, end) => {
-                if is_same(&text[start..end], word) {
-                    return Found::At(i);
-                }
-                i = i + 1;
-                from = end;
-            }
-            Named::Nowhere => {
-                return Found::Nowhere;
-            }
+    while let Some((start, end)) = next_named(text, from, kind, stop) {
+        if is_same(&text[start..end], word) {
+            return Some(i);
         }
+        i += 1;
+        from = end;
     }
+    None
 }
 
 // The number of a word among the names that a table holds and those that go on behind them.
@@ -137,14 +107,14 @@ pub fn number_of(
     kind: u8,
     stop: u8,
     word: &[u8],
-) -> Found
+) -> Option<usize>
     requires { Kinds kind stop × Holds text.now table.now count rest }
     ensures { result ≡ found_from 0 (all_names text.now table.now count kind stop rest) word.now }
 {
     let found = among_held(text, table, count, word);
     match found {
-        Found::At(i) => Found::At(i),
-        Found::Nowhere => ahead(text, rest, kind, stop, word, count),
+        Some(i) => Some(i),
+        None => ahead(text, rest, kind, stop, word, count),
     }
 }
 
