@@ -8,11 +8,11 @@ use mathlib.Core.List.{List, [], ◌∷◌, ◌++◌}
 use lib.Dec.{leb}
 use lib.ListN.{length, length-append}
 use borrow.Author.Tests.{lt-ltb, le-ltb, leb-true, leb-false}
+use Rattle.std.specs.Prelude.{Some, None}
 use Rattle.model.specs.Words.{every}
 use Rattle.model.specs.Tree.{Guard, atom, both, either, opposite}
 use Rattle.records.specs.GuardRecords.{Read, got, broken, guard_at, guard_from, by_read}
 use Rattle.records.specs.Ends.{end_of}
-use Rattle.records.specs.declared.guards.End.TheVariants.{At, Broken}
 use Rattle.records.proofs.GuardLaws.{read_behind, end_got}
 use Rattle.encoding.specs.Records.{Eight, eights}
 use Rattle.encoding.specs.Encoding.{guard_records, gathered}
@@ -40,7 +40,7 @@ unfolding all_read
 none_left zero at b h = refl
 none_left (suc n) at b h = rw (le-ltb at (length b / 8) h)
 
-pub reading_on : (b : List ℕ) (at e : ℕ) → Reading b at → at < length b / 8 → end_of (guard_at 16 b at) ≡ At e → (at < e) × Reading b e
+pub reading_on : (b : List ℕ) (at e : ℕ) → Reading b at → at < length b / 8 → end_of (guard_at 16 b at) ≡ Some e → (at < e) × Reading b e
 unfolding guard_from
 reading_on b at e r h f =
     let (g, p) = end_got 16 b at e f in
@@ -55,14 +55,14 @@ reading_on b at e r h f =
       },
     )
 
-pub reading_broken : (b : List ℕ) (at : ℕ) → Reading b at → at < length b / 8 → end_of (guard_at 16 b at) ≡ Broken → shallow b ≡ false
+pub reading_broken : (b : List ℕ) (at : ℕ) → Reading b at → at < length b / 8 → end_of (guard_at 16 b at) ≡ None → shallow b ≡ false
 unfolding guard_from
 reading_broken b at r h f =
     let z = r.few in
     let n : length b / 8 - r.read ≡ suc (length b / 8 - suc r.read) = omega arith in
     r.decides ∙ (ap (λ (k : ℕ). all_read k b at) n ∙ (one_read (length b / 8 - suc r.read) at b h ∙ go (guard_at 16 b at) f))
   where
-    go : (x : Read) → end_of x ≡ Broken → by_read x (λ _. false) (λ g e. all_read (length b / 8 - suc r.read) b e) ≡ false
+    go : (x : Read) → end_of x ≡ None → by_read x (λ _. false) (λ g e. all_read (length b / 8 - suc r.read) b e) ≡ false
     go broken e = refl
     go (got g k) e = absurd (let w : ◌≡◌ {A = ℕ} 0 1 = cc in omega arith)
 

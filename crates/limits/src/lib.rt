@@ -7,7 +7,7 @@ ghost use Rattle.limits.specs.Shallow.{shallow};
 ghost use Rattle.limits.specs.Counts.{counts_right, SetsTold, FewTold};
 
 use lists::{class_set, record_count};
-use records::guards::{End, guard_end};
+use records::guards::guard_end;
 use sizes::Sizes;
 
 // No guard of a body of guard records, which stand one behind the other, has more than 16 operators on a path.
@@ -18,7 +18,7 @@ pub fn all_shallow(guards: &[u8]) -> bool
     let mut at = 0;
     while at < count {
         let end = guard_end(guards, at, 16);
-        let End::At(next) = end else {
+        let Some(next) = end else {
             return false;
         };
         at = next;

@@ -4,23 +4,24 @@ use Prim.Native.Nat.{ℕ, zero, suc, ◌+◌, ◌-◌, ◌/◌, ◌<◌, ◌≤�
 use native.Mathlib.Omega.{arith}
 use native.Mathlib.Numerals.{sub-one}
 use mathlib.Core.Path.{◌≡◌, refl, sym, ◌∙◌, ap, subst}
-use mathlib.Core.Bool.{Bool, true, false, ◌&&◌, not}
+use mathlib.Core.Bool.{Bool, true, false}
 use mathlib.Core.Logic.{◌⊎◌, inl, inr}
 use mathlib.Core.List.{List}
 use denote.Enum.Declared.{tag_of}
-use lib.Dec.{eqb, leb}
+use lib.Dec.{leb}
 use lib.ListN.{length}
-use borrow.Author.Tests.{lt-ltb, le-ltb, le-leb, lt-leb, eq-eqb, ne_eqb}
+use borrow.Author.Tests.{lt-ltb, le-ltb, le-leb, lt-leb}
+use Rattle.std.specs.Prelude.{Some, None}
+use Rattle.std.specs.Option.{is_some}
 use Rattle.model.specs.Words.{choose}
-use Rattle.model.specs.Tree.{Pattern, everyone, of_class, Kind, all_not_in, Guard, both, either, opposite}
+use Rattle.model.specs.Tree.{Pattern, Kind, Guard, both, either}
 use Rattle.model.proofs.Words.{clash, true_not_false, lt_or_le}
-use Rattle.records.specs.Bytes.{byte, u16, u32, record_at}
-use Rattle.records.specs.GuardRecords.{pattern_right, pattern_of, atom_right, operator_right, record_right, Read, got, broken, by_read, is_read, Operator, two, one, Record, leaf, operator, unknown, atom_kind, operator_of, record_of, guard_record, joined, shaped, guard_with, guard_at, operands, guard_from}
+use Rattle.records.specs.Bytes.{byte, u32, record_at}
+use Rattle.records.specs.GuardRecords.{pattern_of, atom_right, operator_right, record_right, Read, got, broken, by_read, is_read, Operator, two, one, Record, leaf, operator, unknown, atom_kind, operator_of, record_of, guard_record, joined, shaped, guard_with, guard_at, operands, guard_from}
 use Rattle.records.specs.Records.{operator_as}
 use Rattle.records.specs.Ends.{end_of}
 use Rattle.records.specs.declared.guards.Operator.{Operator as ReadOperator}
 use Rattle.records.specs.declared.guards.Operator.TheVariants.{Both, Either, Opposite}
-use Rattle.records.specs.declared.guards.End.TheVariants.{At, Broken}
 use Rattle.records.specs.contracts.guards.Operator.{the_type}
 
 -- what holds where no guard was read, and where one was, holds of what is made of either
@@ -28,23 +29,6 @@ pub read_case {ℓ κ} : {A : Type ℓ} (P : A → Type κ) (r : Read) (x : Unit
     → (r ≡ broken → P (x tt)) → ((g : Guard) (e : ℕ) → r ≡ got g e → P (f g e)) → P (by_read r x f)
 read_case P broken x f p q = p refl
 read_case P (got g e) x f p q = q g e refl
-
--- the last of an atom's kinds, and of the operators
-pub kind_last : (k : ℕ) → (k ≡ 0 → ⊥) → (k ≡ 1 → ⊥) → (k ≡ 2 → ⊥) → all_not_in ≡ atom_kind k
-kind_last zero a b c = absurd (a refl)
-kind_last (suc zero) a b c = absurd (b refl)
-kind_last (suc (suc zero)) a b c = absurd (c refl)
-kind_last (suc (suc (suc k))) a b c = refl
-
-pub operator_last : (k : ℕ) → (k ≡ 4 → ⊥) → (k ≡ 5 → ⊥) → one opposite ≡ operator_of k
-operator_last k a b = rw (ne_eqb k 4 a, ne_eqb k 5 b)
-
--- a pattern's byte is 255 for all children, else a child class
-pub pattern_all : (p x : ℕ) → x ≡ p → x ≡ 255 → everyone ≡ pattern_of p
-pattern_all p x e h = rw (eq-eqb p 255 (sym e ∙ h))
-
-pub pattern_one : (p x y : ℕ) → x ≡ p → (x ≡ 255 → ⊥) → y ≡ p → of_class y ≡ pattern_of p
-pattern_one p x y e h f = rw (ne_eqb p 255 (λ q. h (e ∙ q)), f)
 
 -- what a record of kind k is
 module _ (r : List ℕ) (k : ℕ) (e : k ≡ byte r 0) where
@@ -189,31 +173,26 @@ pub read_behind : (d : ℕ) (gs : List ℕ) (i : ℕ) {g : Guard} {e : ℕ} → 
 read_behind d gs i h = subst (Behind i) h (guard_behind d gs i)
 
 -- back from an end to what was read
-got_back : (o : Read) (e : ℕ) → end_of o ≡ At e → (g : Guard) × (o ≡ got g e)
+got_back : (o : Read) (e : ℕ) → end_of o ≡ Some e → (g : Guard) × (o ≡ got g e)
 got_back (got g j) e h = (g, ap (got g) (cc))
 got_back broken e h = absurd (clash (cc))
 
-broken_back : (o : Read) → end_of o ≡ Broken → o ≡ broken
+broken_back : (o : Read) → end_of o ≡ None → o ≡ broken
 broken_back (got g j) h = absurd (clash (cc))
 broken_back broken h = refl
 
 module _ (d : ℕ) (gs : List ℕ) (i : ℕ) where
-  pub end_got : (e : ℕ) → end_of (guard_at d gs i) ≡ At e → (g : Guard) × (guard_at d gs i ≡ got g e)
+  pub end_got : (e : ℕ) → end_of (guard_at d gs i) ≡ Some e → (g : Guard) × (guard_at d gs i ≡ got g e)
   end_got e h = got_back (guard_at d gs i) e h
 
-  pub end_broken : end_of (guard_at d gs i) ≡ Broken → guard_at d gs i ≡ broken
+  pub end_broken : end_of (guard_at d gs i) ≡ None → guard_at d gs i ≡ broken
   end_broken h = broken_back (guard_at d gs i) h
 
 -- a guard reads exactly if it has an end
-pub ends_read : (gs : List ℕ) (i e : ℕ) → end_of (guard_at 16 gs i) ≡ At e → is_read (guard_from gs i) ≡ true
+pub ends_read : (gs : List ℕ) (i : ℕ) → is_some (end_of (guard_at 16 gs i)) ≡ is_read (guard_from gs i)
 unfolding guard_from
-ends_read gs i e h = let (g, p) = end_got 16 gs i e h in rw p
-
-pub ends_broken : (gs : List ℕ) (i : ℕ) → end_of (guard_at 16 gs i) ≡ Broken → is_read (guard_from gs i) ≡ false
-unfolding guard_from
-ends_broken gs i h = rw (end_broken 16 gs i h)
-
--- an atom's layout, of what the byte readers give
-pub atom_told : (K : ℕ) (r : List ℕ) (x zeros names : ℕ) (p : Bool) → x ≡ byte r 1 → p ≡ pattern_right K x → zeros ≡ u16 r 2 → names ≡ u32 r 4
-    → (p && (eqb zeros 0 && not (eqb names 0))) ≡ atom_right K r
-atom_told K r x zeros names p ex ep ez en = rw (ep, ex, ez, en)
+ends_read gs i = go (guard_at 16 gs i)
+  where
+    go : (o : Read) → is_some (end_of o) ≡ is_read o
+    go (got g e) = refl
+    go broken = refl

@@ -32,13 +32,6 @@ pub enum GuardRecord {
     Unknown,
 }
 
-// Where a guard that begins at a record ends: the record after it; or it is broken.
-#[derive(Clone, Copy)]
-pub enum End {
-    At(usize),
-    Broken,
-}
-
 // The test of an atom of kind 0 to 3.
 fn atom_kind(kind: usize) -> Kind
     ensures { kind_as result ≡ atom_kind kind }
@@ -123,27 +116,24 @@ pub fn record_ok(classes: usize, r: &[u8]) -> bool
     }
 }
 
-// Where the guard that begins at record `from` ends, with at most `depth` operators on a path.
-pub fn guard_end(g: &[u8], from: usize, depth: usize) -> End
+// Where the guard that begins at record `from` ends, with at most `depth` operators on a path: the record after it, or it is broken.
+pub fn guard_end(g: &[u8], from: usize, depth: usize) -> Option<usize>
     ensures { result ≡ end_of (guard_at depth g.now from) }
 {
     let record = guard_record(g, from);
     match record {
-        GuardRecord::Atom(_, _, _) => End::At(from + 1),
+        GuardRecord::Atom(_, _, _) => Some(from + 1),
         GuardRecord::Operator(operator) => {
             if depth == 0 {
-                return End::Broken;
+                return None;
             }
-            let first = guard_end(g, from + 1, depth - 1);
-            let End::At(next) = first else {
-                return End::Broken;
-            };
+            let next = guard_end(g, from + 1, depth - 1)?;
             match operator {
                 Operator::Both | Operator::Either => guard_end(g, next, depth - 1),
-                Operator::Opposite => End::At(next),
+                Operator::Opposite => Some(next),
             }
         }
-        GuardRecord::Unknown => End::Broken,
+        GuardRecord::Unknown => None,
     }
 }
 
@@ -151,9 +141,5 @@ pub fn guard_end(g: &[u8], from: usize, depth: usize) -> End
 pub fn guard_ok(g: &[u8], place: usize) -> bool
     ensures { result ≡ is_read (guard_from g.now place) }
 {
-    let end = guard_end(g, place, 16);
-    match end {
-        End::At(_) => true,
-        End::Broken => false,
-    }
+    guard_end(g, place, 16).is_some()
 }

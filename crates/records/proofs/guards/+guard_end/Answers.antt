@@ -19,23 +19,23 @@ overflow_add-from t c = let l = known_there _ _ (ap record_as (sym c.in-Operator
 pub returns-then-depth-eq0 : goal.returns-then-depth-eq0
 returns-then-depth-eq0 t c = sym (ap end_of (read_as _ _ _ (ap record_as (sym c.in-Operator.is) ∙ c.guard_record-record.ensures) ∙ joined_deep _ _ _ c.if-depth-eq0.true _))
 
-pub returns-in_default : goal.returns-in_default
-returns-in_default t c =
-    let first_broken = end_broken _ _ _ (sym c.guard_end-first.ensures ∙ c.in_default.is) in
-    sym (ap end_of (read_as _ _ _ (ap record_as (sym c.in-Operator.is) ∙ c.guard_record-record.ensures) ∙ joined_first _ _ _ c.if-depth-eq0.false first_broken _))
+pub returns-in_err-next-in-Operator : goal.returns-in_err-next-in-Operator
+returns-in_err-next-in-Operator t c =
+    let first_broken = end_broken _ _ _ (sym c.guard_end.ensures ∙ c.in_err-next-in-Operator.was) in
+    rw c.from_residual.ensures (sym (ap end_of (read_as _ _ _ (ap record_as (sym c.in-Operator.is) ∙ c.guard_record-record.ensures) ∙ joined_first _ _ _ c.if-depth-eq0.false first_broken _)))
 
 pub returns-in-Atom : goal.returns-in-Atom
 returns-in-Atom t c = sym (ap end_of (read_as _ _ _ (ap record_as (sym c.in-Atom.is) ∙ c.guard_record-record.ensures)))
 
 pub returns-in-Both : goal.returns-in-Both
 returns-in-Both t c =
-    let (g, p) = end_got _ _ _ _ (sym c.guard_end-first.ensures ∙ c.in-At.is) in
+    let (g, p) = end_got _ _ _ _ (sym c.guard_end.ensures ∙ c.in_ok-next-in-Operator.was) in
     let (op, q) = on_two c.in-Operator.operator (opened c.in-Both.in-Both-own.keys1) in
-    c.guard_end.ensures ∙ sym (ap end_of (read_as _ _ _ (ap operator (sym q) ∙ (ap record_as (sym c.in-Operator.is) ∙ c.guard_record-record.ensures))) ∙ joined_end _ _ _ c.if-depth-eq0.false p op)
+    c.guard_end-in-Both.ensures ∙ sym (ap end_of (read_as _ _ _ (ap operator (sym q) ∙ (ap record_as (sym c.in-Operator.is) ∙ c.guard_record-record.ensures))) ∙ joined_end _ _ _ c.if-depth-eq0.false p op)
 
 pub returns-in-Opposite : goal.returns-in-Opposite
 returns-in-Opposite t c =
-    let (g, p) = end_got _ _ _ _ (sym c.guard_end-first.ensures ∙ c.in-At.is) in
+    let (g, p) = end_got _ _ _ _ (sym c.guard_end.ensures ∙ c.in_ok-next-in-Operator.was) in
     let q = ap operator_as c.in-Opposite.is in
     sym (ap end_of (read_as _ _ _ (ap operator (sym q) ∙ (ap record_as (sym c.in-Operator.is) ∙ c.guard_record-record.ensures)) ∙ joined_one _ _ _ c.if-depth-eq0.false p opposite))
 
