@@ -25,10 +25,8 @@ fn append_children(out: &mut [u8], at: usize, list: &[u8]) -> usize
     ensures { Appended out.old out.new at (child_fields list.now) result }
 {
     let mut end = least(at, out.len());
-    let mut i = 0;
-    while i < list.len() / 2 {
+    for i in 0..list.len() / 2 {
         end = append_child(out, end, list[2 * i], list[2 * i + 1]);
-        i = i + 1;
     }
     end
 }

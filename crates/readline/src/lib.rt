@@ -6,7 +6,7 @@ ghost use Rattle.model.specs.Answers.{read_numbers};
 ghost use Rattle.texts.specs.Texts.{Appended};
 ghost use Rattle.lines.specs.Lines.{read_text, read_line};
 
-use lines::answers::{append_string, refused, say_two};
+use lines::answers::{append_string, refused, say};
 use model::Misread;
 
 // read LENGTH STATES, refused 16 PLACE, or refused NUMBER
@@ -15,13 +15,18 @@ fn reading_line(answer: Result<(usize, usize), Misread>, out: &mut [u8]) -> usiz
 {
     match answer {
         Err(Misread::Refused(x)) => refused(x, out),
-        Err(Misread::WrongWord(place)) => say_two(out, 0, b"refused", 16, place as u64),
-        Ok((length, states)) => say_two(out, 0, b"read", length as u64, states as u64),
+        Err(Misread::WrongWord(place)) => say(out, 0, b"refused", &[16, place as u64]),
+        Ok((length, states)) => say(out, 0, b"read", &[length as u64, states as u64]),
     }
 }
 
 // The same, and the two buffers, each whole
-pub fn read_line(answer: Result<(usize, usize), Misread>, sheet: &[u8], table: &[u8], out: &mut [u8]) -> usize
+pub fn read_line(
+    answer: Result<(usize, usize), Misread>,
+    sheet: &[u8],
+    table: &[u8],
+    out: &mut [u8],
+) -> usize
     ensures { Appended out.old out.new 0 (read_line (read_numbers answer) sheet.now table.now) result }
 {
     let end = reading_line(answer, out);

@@ -6,7 +6,7 @@ ghost use Rattle.model.specs.Answers.{write_numbers};
 ghost use Rattle.texts.specs.Texts.{Appended};
 ghost use Rattle.lines.specs.Lines.{write_text, write_line};
 
-use lines::answers::{append_string, refused, say_one};
+use lines::answers::{append_string, refused, say};
 use model::Refusal;
 
 // written LENGTH, or refused NUMBER
@@ -15,7 +15,7 @@ fn written_line(answer: Result<usize, Refusal>, out: &mut [u8]) -> usize
 {
     match answer {
         Err(x) => refused(x, out),
-        Ok(length) => say_one(out, 0, b"written", length as u64),
+        Ok(length) => say(out, 0, b"written", &[length as u64]),
     }
 }
 

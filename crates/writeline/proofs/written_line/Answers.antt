@@ -9,4 +9,4 @@ returns-in-Err c = rw c.in-Err.is (case_refused written_word _ _ _ c.in-Err.x c.
 
 pub returns-in-Ok : goal.returns-in-Ok
 unfolding one_case
-returns-in-Ok c = rw c.in-Ok.is c.say_one.ensures
+returns-in-Ok c = rw c.in-Ok.is c.say.ensures
