@@ -1,17 +1,21 @@
 -- Laws of the words of a class text: a name of a list, an indent, the names of a set.
 -- Assumes nothing.
-use Prim.Native.Nat.{ℕ, zero, suc, ◌+◌, ◌-◌, ◌*◌, ◌/◌, ◌<◌, ◌≤◌}
+use Prim.Native.Nat.{ℕ, zero, suc, ◌+◌, ◌-◌, ◌*◌, ◌/◌, ◌^◌, ◌<◌, ◌≤◌}
+use Rattle.std.specs.Prelude.{Option, Some, None, MatchOption, cond, count_ones, get_or}
+use Rattle.std.specs.List.{count_by}
+use Rattle.std.specs.Simd.Lanes.{mask_l}
+use Rattle.std.proofs.lemmas.List.Recursion.{is_count_by}
+use Rattle.std.proofs.lemmas.List.{get_or-map}
+use Rattle.std.proofs.lemmas.Simd.{mask_l-lt, bit_mask_l, ones-mask_l}
 use native.Mathlib.Omega.{arith}
 use mathlib.Core.Path.{◌≡◌, refl, sym, ◌∙◌, ap}
-use mathlib.Core.Logic.{◌⊎◌, inl, inr}
 use mathlib.Core.Bool.{Bool, true, false}
-use mathlib.Core.List.{List, [], ◌∷◌, ◌++◌, append-nil}
-use lib.Dec.{eqb, leb}
+use mathlib.Core.List.{List, [], ◌∷◌, ◌++◌, map, append-nil}
+use lib.Dec.{eqb}
 use lib.ListN.{length, take, drop, length-map}
-use borrow.Author.Tests.{ne_eqb, le-leb, lt-leb, eqb-true, eqb-false}
-use Rattle.model.specs.Words.{keep, listed, has}
-use Rattle.model.proofs.Lists.{get_or_listed, get_or_past}
-use Rattle.model.proofs.Words.{lt_or_le}
+use Rattle.model.specs.Words.{kept, keep, listed, has}
+use Rattle.model.proofs.Lists.{length_listed, get_or_listed, get_or_past}
+use Rattle.model.proofs.Masks.{same_bits}
 use Rattle.grammar.specs.Grammar.{Name}
 use Rattle.grammar.specs.Words.{spelled}
 use Rattle.naming.specs.NameLists.{characters, records_in}
@@ -24,7 +28,7 @@ use Rattle.records.specs.Patterns.{pattern_as}
 use Rattle.records.specs.declared.kinds.Pattern.{Pattern}
 use Rattle.records.specs.declared.kinds.Pattern.TheVariants.{Everyone, OfClass}
 use Rattle.writings.specs.Layout.{name_at, indent, kin_text, names_of, commas, set_text}
-use Rattle.spelling.specs.Spelling.{numbers_from, names_from, row, braced, Next}
+use Rattle.spelling.specs.Spelling.{numbers_from, names_from, row, braced, First}
 
 -- a name of a list of n records, and none past its end
 module _ (size : ℕ) (b : List ℕ) (i n : ℕ) (k : Count b size n) where
@@ -49,16 +53,14 @@ pub kin_one : (classes : List ℕ) (p : Pattern) (x : ChildClass) → p ≡ OfCl
 unfolding kin_text
 kin_one classes p x e = rw e
 
--- an indent, a level more
-pub level_on : (v : ℕ) → 0 < v → indent v ≡ (32 ∷ 32 ∷ []) ++ indent (v - 1)
+-- an indent of which i levels are written, a level more
+pub level_on : (v i : ℕ) → i < v → indent (v - i) ≡ (32 ∷ 32 ∷ []) ++ indent (v - (i + 1))
 unfolding indent
-level_on zero l = absurd (omega arith)
-level_on (suc v) l = ap (λ (n : ℕ). 32 ∷ 32 ∷ indent n) (let e : v ≡ suc v - 1 = omega arith in e)
+level_on v i l = ap indent (let e : v - i ≡ suc (v - (i + 1)) = omega arith in e)
 
-pub level_none : (v : ℕ) → v ≤ 0 → indent v ≡ []
+pub level_none : (v i : ℕ) → v ≤ i → indent (v - i) ≡ []
 unfolding indent
-level_none zero l = refl
-level_none (suc v) l = absurd (omega arith)
+level_none v i l = ap indent (let e : v - i ≡ 0 = omega arith in e)
 
 -- the numbers of a set's names, number by number
 module _ (s i : ℕ) where
@@ -74,54 +76,74 @@ module _ (s i : ℕ) where
   unfolding numbers_from keep
   number_over l = rw (left_none {A = ℕ} (λ j. j) 32 i l)
 
--- the loop that looks for the next: those from its start on are those from i on
-pub record Looking (s from i : ℕ) : Type 0 where
-  pub onward : from ≤ i
-  pub same : numbers_from s from ≡ numbers_from s i
+-- numbers that the set has not are passed over
+pub numbers_past : (s i : ℕ) → i ≤ 32 → ((k : ℕ) → k < i → has s k ≡ false) → numbers_from s 0 ≡ numbers_from s i
+numbers_past s zero l h = refl
+numbers_past s (suc i) l h =
+    numbers_past s i (omega arith) (λ k m. h k (omega arith))
+    ∙ number_on s i (omega arith) (h i (omega arith))
+    ∙ ap (numbers_from s) (let e : i + 1 ≡ suc i = omega arith in e)
 
-module _ (s from i : ℕ) (k : Looking s from i) where
-  pub looking_on : i < 32 → (t : Bool) → t ≡ has s i → t ≡ false → Looking s from (i + 1)
-  looking_on l t e h = let o = k.onward in record { onward = omega arith; same = k.same ∙ number_on s i l (sym e ∙ h) }
+-- the first number of a set, by what is known of those before it
+pub first_told : (s : ℕ) (o : Option ℕ)
+    → MatchOption o ((k : ℕ) → 0 ≤ k → k < 32 → has s k ≡ false) (λ r. (0 ≤ r) × (r < 32) × (has s r ≡ true) × ((k : ℕ) → 0 ≤ k → k < r → has s k ≡ false))
+    → First s o
+first_told s None h = numbers_past s 32 (omega arith) (λ k l. h k (omega arith) l) ∙ number_over s 32 (omega arith)
+first_told s (Some r) (z, l, t, h) = (l, numbers_past s r (omega arith) (λ k m. h k (omega arith) m) ∙ number_here s r l t)
 
-  pub looking_found : i < 32 → (t : Bool) → t ≡ has s i → t ≡ true → Next s from i
-  looking_found l t e h =
-      record { onward = k.onward; there = λ m. k.same ∙ number_here s i l (sym e ∙ h); over = λ m. absurd (omega arith) }
+-- how many numbers a set has
+keep_count : (f : ℕ → Bool) (xs : List ℕ) → length (keep f xs) ≡ count_by f xs
+unfolding keep
+keep_count f = is_count_by (λ xs. length (keep f xs)) f refl (λ x xs. go (f x) x xs)
+  where
+    go : (b : Bool) (x : ℕ) (xs : List ℕ) → length (kept b x (keep f xs)) ≡ cond b (1 + length (keep f xs)) (length (keep f xs))
+    go true x xs = omega arith
+    go false x xs = refl
 
-  pub looking_over : 32 ≤ i → Next s from i
-  looking_over l = record { onward = k.onward; there = λ m. absurd (omega arith); over = λ m. k.same ∙ number_over s i l }
+-- the bits of a mask of 32 tests
+mask_has : (f : ℕ → Bool) (n : ℕ) → n < 32 → f n ≡ has (mask_l (map f (listed 0 32 (λ j. j)))) n
+unfolding has
+mask_has f n l =
+    let js = listed 0 32 (λ j. j) in
+    let m : n < length js = rw (length_listed 0 32 (λ j. j)) l in
+    let e : get_or (map f js) n false ≡ f n = get_or-map f js n 0 false m ∙ ap f (get_or_listed 0 32 (λ j. j) 0 n n l (omega arith)) in
+    rw (bit_mask_l (map f js) n, e) (go (f n))
+  where
+    go : (b : Bool) → b ≡ eqb (cond b 1 0) 1
+    go true = refl
+    go false = refl
 
--- a set has one name: there is a first, and none behind it
-module _ (s r : ℕ) (k : Next s 0 r) where
-  pub none_at_all : 32 ≤ r → false ≡ eqb (length (numbers_from s 0)) 1
-  none_at_all l = rw (k.over l)
+module _ (s : ℕ) (small : s < 2 ^ 32) where
+  pub how_many : count_ones s ≡ length (numbers_from s 0)
+  unfolding numbers_from
+  how_many =
+      let js = listed 0 32 (λ j. j) in
+      let n : length (map (has s) js) ≡ 32 = length-map js (has s) ∙ length_listed 0 32 (λ j. j) in
+      let same : s ≡ mask_l (map (has s) js) = same_bits 32 s (mask_l (map (has s) js)) small (rw n at (mask_l-lt (map (has s) js))) (mask_has (has s)) in
+      ap count_ones same ∙ ones-mask_l (has s) js ∙ sym (keep_count (has s) js)
 
-  pub one_told : r < 32 → (q : ℕ) → Next s (r + 1) q → leb 32 q ≡ eqb (length (numbers_from s 0)) 1
-  one_told l q n = go (lt_or_le q 32)
-    where
-      go : (q < 32) ⊎ (32 ≤ q) → leb 32 q ≡ eqb (length (numbers_from s 0)) 1
-      go (inl m) =
-          let e = ap length (k.there l) in
-          let f = ap length (n.there m) in
-          lt-leb 32 q m ∙ sym (ne_eqb (length (numbers_from s 0)) 1 (λ z. omega arith))
-      go (inr m) = rw (k.there l, n.over m, le-leb 32 q m)
-
--- the names with commas
-module _ (names : List ℕ) (s i r : ℕ) (k : Next s i r) where
-  pub commas_on : r < 32 → commas (names_from names s i) ≡ (44 ∷ 32 ∷ []) ++ name_at 32 names r ++ commas (names_from names s (r + 1))
+-- the names with commas, name by name
+module _ (names : List ℕ) (s i : ℕ) where
+  pub commas_on : i < 32 → (t : Bool) → t ≡ has s i → t ≡ true → commas (names_from names s i) ≡ (44 ∷ 32 ∷ []) ++ name_at 32 names i ++ commas (names_from names s (i + 1))
   unfolding commas spelled listed
-  commas_on l = rw (k.there l)
+  commas_on l t e h = rw (number_here s i l (sym e ∙ h))
 
-  pub commas_over : 32 ≤ r → commas (names_from names s i) ≡ []
+  pub commas_past : i < 32 → (t : Bool) → t ≡ has s i → t ≡ false → commas (names_from names s i) ≡ commas (names_from names s (i + 1))
+  commas_past l t e h = rw (number_on s i l (sym e ∙ h))
+
+  pub commas_over : 32 ≤ i → commas (names_from names s i) ≡ []
   unfolding commas
-  commas_over l = rw (k.over l)
+  commas_over l = rw (number_over s i l)
 
-  pub row_on : r < 32 → name_at 32 names r ++ commas (names_from names s (r + 1)) ≡ row (names_from names s i)
+-- the first name, and the others behind their commas
+module _ (names : List ℕ) (s : ℕ) where
+  pub row_some : (r : ℕ) → First s (Some r) → name_at 32 names r ++ commas (names_from names s (r + 1)) ≡ row (names_from names s 0)
   unfolding row
-  row_on l = rw (k.there l)
+  row_some r k = rw k.1
 
-  pub row_over : 32 ≤ r → [] ≡ row (names_from names s i)
+  pub row_none : First s None → [] ≡ row (names_from names s 0)
   unfolding row
-  row_over l = rw (k.over l)
+  row_none k = rw k
 
 -- braces
 pub braces : (ns : List Name) {before a b after : List ℕ} {at i j r : ℕ} → Puts (123 ∷ []) before at a i → Puts (row ns) a i b j → Puts (125 ∷ []) b j after r
@@ -143,12 +165,11 @@ set_braced (n ∷ []) h = absurd (h refl)
 set_braced (n ∷ (m ∷ ns)) h = refl
 
 -- the names of a set are those from 0 on
-module _ (names : List ℕ) (s : ℕ) (t : Bool) (e : t ≡ eqb (length (numbers_from s 0)) 1) where
-  pub set_alone : t ≡ true → row (names_from names s 0) ≡ set_text (names_of names s)
+module _ (names : List ℕ) (s : ℕ) (small : s < 2 ^ 32) where
+  pub set_alone : count_ones s ≡ 1 → row (names_from names s 0) ≡ set_text (names_of names s)
   unfolding names_of numbers_from
-  set_alone h = set_one (names_from names s 0) (length-map (numbers_from s 0) (name_at 32 names) ∙ eqb-true (length (numbers_from s 0)) 1 (sym e ∙ h))
+  set_alone h = set_one (names_from names s 0) (length-map (numbers_from s 0) (name_at 32 names) ∙ sym (how_many s small) ∙ h)
 
-  pub set_not_alone : t ≡ false → braced (names_from names s 0) ≡ set_text (names_of names s)
+  pub set_not_alone : (count_ones s ≡ 1 → ⊥) → braced (names_from names s 0) ≡ set_text (names_of names s)
   unfolding names_of numbers_from
-  set_not_alone h =
-      set_braced (names_from names s 0) (λ k. eqb-false (length (numbers_from s 0)) 1 (sym e ∙ h) (sym (length-map (numbers_from s 0) (name_at 32 names)) ∙ k))
+  set_not_alone h = set_braced (names_from names s 0) (λ k. h (how_many s small ∙ sym (length-map (numbers_from s 0) (name_at 32 names)) ∙ k))

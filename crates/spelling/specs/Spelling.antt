@@ -1,6 +1,6 @@
 -- What the writers of the names of a set promise.
 -- Assumes nothing.
-use Rattle.std.specs.Prelude.{ℕ, ◌+◌, ◌-◌, ◌<◌, ◌≤◌, ◌≡◌, List, [], ◌∷◌, ◌++◌, map}
+use Rattle.std.specs.Prelude.{ℕ, ◌+◌, ◌-◌, ◌<◌, ◌≡◌, List, [], ◌∷◌, ◌++◌, map, Option, MatchOption}
 use Rattle.model.specs.Words.{keep, listed, has}
 use Rattle.grammar.specs.Grammar.{Name}
 use Rattle.grammar.specs.Words.{spelled}
@@ -23,8 +23,6 @@ row (n ∷ ns) = n ++ commas ns
 unfoldable pub braced : List Name → List ℕ
 braced ns = spelled "{" ++ row ns ++ spelled "}"
 
--- r is the first number of the set's from number i on; from 32 on it is none
-pub record Next (s i r : ℕ) : Type 0 where
-  pub onward : i ≤ r
-  pub there : r < 32 → numbers_from s i ≡ r ∷ numbers_from s (r + 1)
-  pub over : 32 ≤ r → numbers_from s i ≡ []
+-- o is the first number of the set's, or none where the set is empty
+abbrev pub First : ℕ → Option ℕ → Type 0
+First s o = MatchOption o (numbers_from s 0 ≡ []) (λ r. (r < 32) × (numbers_from s 0 ≡ r ∷ numbers_from s (r + 1)))

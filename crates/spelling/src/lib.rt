@@ -1,12 +1,12 @@
 // The words of a class text, written into a lent buffer: names, indents, the children that are spoken of, and sets of names.
 #![tactic(auto)]
 
-ghost use Rattle.std.specs.Prelude.{◌≡◌, ◌≤◌, eqb, length};
+ghost use Rattle.std.specs.Prelude.{◌≡◌, ◌≤◌};
 ghost use Rattle.pen.specs.Writing.{Puts};
 ghost use Rattle.naming.specs.NameLists.{characters};
 ghost use Rattle.records.specs.Patterns.{pattern_as};
 ghost use Rattle.writings.specs.Layout.{name_at, indent, kin_text, names_of, commas, set_text};
-ghost use Rattle.spelling.specs.Spelling.{numbers_from, names_from, row, braced, Next};
+ghost use Rattle.spelling.specs.Spelling.{numbers_from, names_from, row, braced, First};
 
 use lists::{name_length, name_record, record_count};
 use model::ChildName;
@@ -38,10 +38,8 @@ pub fn put_indent(out: &mut [u8], at: usize, level: usize) -> usize
     ensures { Puts (indent level) out.old at out.new result }
 {
     let mut end = at;
-    let mut v = level;
-    while 0 < v {
+    for _ in 0..level {
         end = put_bytes(out, end, b"  ");
-        v = v - 1;
     }
     end
 }
@@ -56,29 +54,11 @@ pub fn put_kin(out: &mut [u8], at: usize, classes: &[u8], pattern: Pattern) -> u
     }
 }
 
-// The first name of the set from a name on; 32 or more where there is none.
-fn next_name(set: u32, from: u8) -> u8
-    ensures { Next set from result }
+// The first name of the set, if it has one.
+fn first_name(set: u32) -> Option<u8>
+    ensures { First set result }
 {
-    let mut i = from;
-    while i < 32 {
-        if has_name(set, ChildName(i)) {
-            return i;
-        }
-        i = i + 1;
-    }
-    i
-}
-
-// The set has one name.
-fn has_one(set: u32) -> bool
-    ensures { result ≡ eqb (length (numbers_from set 0)) 1 }
-{
-    let first = next_name(set, 0);
-    if 32 <= first {
-        return false;
-    }
-    32 <= next_name(set, first + 1)
+    (0..32).find(|i| has_name(set, ChildName(*i)))
 }
 
 // The names of the set from a name on, a comma before each.
@@ -86,28 +66,26 @@ fn put_commas(out: &mut [u8], at: usize, names: &[u8], set: u32, from: u8) -> us
     ensures { Puts (commas (names_from names.now set from)) out.old at out.new result }
 {
     let mut end = at;
-    let mut i = from;
-    loop {
-        let next = next_name(set, i);
-        if 32 <= next {
-            return end;
+    for i in from..32 {
+        if has_name(set, ChildName(i)) {
+            let comma = put_bytes(out, end, b", ");
+            end = put_name(out, comma, names, 32, i as usize);
         }
-        let a = put_bytes(out, end, b", ");
-        end = put_name(out, a, names, 32, next as usize);
-        i = next + 1;
     }
+    end
 }
 
 // The names of the set, a comma between two.
 fn put_row(out: &mut [u8], at: usize, names: &[u8], set: u32) -> usize
     ensures { Puts (row (names_from names.now set 0)) out.old at out.new result }
 {
-    let first = next_name(set, 0);
-    if 32 <= first {
-        return at;
+    match first_name(set) {
+        Some(first) => {
+            let end = put_name(out, at, names, 32, first as usize);
+            put_commas(out, end, names, set, first + 1)
+        }
+        None => at,
     }
-    let end = put_name(out, at, names, 32, first as usize);
-    put_commas(out, end, names, set, first + 1)
 }
 
 // The names of the set in braces.
@@ -123,7 +101,7 @@ fn put_braced(out: &mut [u8], at: usize, names: &[u8], set: u32) -> usize
 pub fn put_set(out: &mut [u8], at: usize, names: &[u8], set: u32) -> usize
     ensures { Puts (set_text (names_of names.now set)) out.old at out.new result }
 {
-    if has_one(set) {
+    if set.count_ones() == 1 {
         return put_row(out, at, names, set);
     }
     put_braced(out, at, names, set)

@@ -1,11 +1,9 @@
 -- `put_indent` meets its contract. The loop's invariant: whoever writes the levels that are left has written all.
 -- Assumes nothing.
+use Prim.Native.Nat.{◌-◌}
 use Rattle.pen.proofs.Puts.{Going}
 use Rattle.writings.specs.Layout.{indent}
 use Rattle.spelling.proofs.put_indent.Given as goal
 
-abbrev pub invariant-loop-v : goal.invariant-loop-v
-invariant-loop-v l = Going (indent l.level) l.initial.out l.at (indent l.v) l.out l.end
-
-abbrev pub decreases-loop-v : goal.decreases-loop-v
-decreases-loop-v l = l.v
+abbrev pub invariant-loop : goal.invariant-loop
+invariant-loop l = Going (indent l.level) l.initial.out l.at (indent (l.level - l.counter)) l.out l.end
