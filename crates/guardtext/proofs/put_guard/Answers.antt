@@ -3,8 +3,8 @@
 use Rattle.guardtext.proofs.GuardTextLaws.{guard_written, guard_broken}
 use Rattle.guardtext.proofs.put_guard.Goals as goal
 
-pub returns-in-At : goal.returns-in-At
-returns-in-At c = guard_written _ _ _ _ _ _ _ _ c.put_from-wrote.ensures _ _ c.in-At.is
+pub returns-in-Some : goal.returns-in-Some
+returns-in-Some c = guard_written _ _ _ _ _ _ _ _ c.put_from.ensures _ _ c.in-Some.is
 
-pub returns-in-Broken : goal.returns-in-Broken
-returns-in-Broken c = guard_broken _ _ _ _ _ _ _ _ c.put_from-wrote.ensures c.in-Broken.is _
+pub returns-in-None : goal.returns-in-None
+returns-in-None c = guard_broken _ _ _ _ _ _ _ _ c.put_from.ensures c.in-None.is _
