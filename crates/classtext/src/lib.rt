@@ -106,8 +106,7 @@ fn put_whens(
     let first = clauses.first;
     let n = clauses.count;
     let mut end = at;
-    let mut i = 0;
-    while i < n {
+    for i in 0..n {
         end = put_when(
             sheet,
             p,
@@ -120,7 +119,6 @@ fn put_whens(
             out,
             end,
         );
-        i = i + 1;
     }
     end
 }
@@ -171,10 +169,8 @@ fn put_actions(
     let first = clauses.first;
     let n = clauses.count;
     let mut end = at;
-    let mut i = 0;
-    while i < n {
+    for i in 0..n {
         end = put_action(sheet, p, first + i, own, names, commands, classes, out, end);
-        i = i + 1;
     }
     end
 }
@@ -219,11 +215,9 @@ fn put_states(
 {
     let n = state_count(sheet, p);
     let mut end = at;
-    let mut q: usize = 0;
-    while q < n {
+    for q in 0..n {
         let here = OwnState(q as u8);
         end = put_state(sheet, p, here, own, names, commands, classes, out, end);
-        q = q + 1;
     }
     end
 }

@@ -26,12 +26,6 @@ put_action-end-requires-clause-a_bound c =
     let y = c.clauses_of-clauses.ensures in
     action_inside _ _ x.stands _ _ _ _ x.q_bound y.first_is y.count_is c.loop-i-test.true
 
-pub overflow_add-i : goal.overflow_add-i
-overflow_add-i c = omega (arith, c.loop-i-test.true, c.clauses_of-clauses.ensures.count_small)
-
-pub loop-i-smaller : goal.loop-i-smaller
-loop-i-smaller c = omega (arith, c.loop-i-test.true)
-
 pub loop-i-preserved : goal.loop-i-preserved
 loop-i-preserved c = going_on c.loop-i.invariant (one_less _ _ _ _ _ c.loop-i-test.true) c.put_action-end.ensures
 

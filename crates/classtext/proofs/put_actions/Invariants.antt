@@ -14,6 +14,3 @@ abbrev pub invariant-loop-i : goal.invariant-loop-i
 invariant-loop-i l =
     Going (gathered (action_text l.own (lent l.names l.commands l.classes)) (listed (l.first + 0) (l.n - 0) (action_in (bodies l.sheet)))) l.initial.out l.at
     (gathered (action_text l.own (lent l.names l.commands l.classes)) (listed (l.first + l.i) (l.n - l.i) (action_in (bodies l.sheet)))) l.out l.end
-
-abbrev pub decreases-loop-i : goal.decreases-loop-i
-decreases-loop-i l = l.n - l.i

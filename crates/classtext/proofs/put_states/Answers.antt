@@ -24,12 +24,6 @@ put_state-end-requires-clause-stands c = c.requires
 pub put_state-end-requires-clause-q_bound : goal.put_state-end-requires-clause-q_bound
 put_state-end-requires-clause-q_bound c = omega (arith, c.loop-q-test.true, c.state_count-n.ensures.0)
 
-pub overflow_add-q : goal.overflow_add-q
-overflow_add-q c = omega (arith, c.loop-q-test.true, c.state_count-n.ensures.1)
-
-pub loop-q-smaller : goal.loop-q-smaller
-loop-q-smaller c = omega (arith, c.loop-q-test.true)
-
 pub loop-q-preserved : goal.loop-q-preserved
 loop-q-preserved c = going_on c.loop-q.invariant (state_less _ _ _ _ _ c.loop-q-test.true) c.put_state-end.ensures
 

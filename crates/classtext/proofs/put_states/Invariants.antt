@@ -13,6 +13,3 @@ abbrev pub invariant-loop-q : goal.invariant-loop-q
 invariant-loop-q l =
     Going (states_text l.own (lent l.names l.commands l.classes) 0 (class_of l.sheet).states) l.initial.out l.at
     (states_text l.own (lent l.names l.commands l.classes) l.q (listed l.q (l.n - l.q) (state_in (bodies l.sheet)))) l.out l.end
-
-abbrev pub decreases-loop-q : goal.decreases-loop-q
-decreases-loop-q l = l.n - l.q

@@ -15,6 +15,3 @@ abbrev pub invariant-loop-i : goal.invariant-loop-i
 invariant-loop-i l =
     Going (whens_text l.sheet l.q.0 l.own (lent l.names l.commands l.classes)) l.initial.out l.at
     (gathered (when_text l.own (lent l.names l.commands l.classes) l.q.0 (own_actions l.sheet l.q.0)) (listed (l.first + l.i) (l.n - l.i) (when_in (bodies l.sheet)))) l.out l.end
-
-abbrev pub decreases-loop-i : goal.decreases-loop-i
-decreases-loop-i l = l.n - l.i
