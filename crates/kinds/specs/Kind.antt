@@ -1,7 +1,7 @@
--- What the function that tells a word's kind promises.
+-- What the functions that tell a word's kind promise.
 -- Assumes nothing.
-use Rattle.std.specs.Prelude.{ℕ, ◌<◌, ◌≡◌, List, [], ◌∷◌}
-use Rattle.grammar.specs.Words.{spelled, token_of}
+use Rattle.std.specs.Prelude.{ℕ, ◌<◌, ◌≡◌, List, Option, MatchOption, length}
+use Rattle.grammar.specs.Words.{position, token_of}
 use Rattle.grammar.specs.Kinds.{token_as}
 
 -- the word is of that kind, which is not the end's
@@ -10,12 +10,6 @@ pub record OfKind (word : List ℕ) (kind : ℕ) : Type 0 where
   pub of_a_kind : kind < 28
   pub not_end : kind ≡ 26 → ⊥
 
--- the fixed words in one line, and where each starts
-unfoldable pub fixed_line : List ℕ
-fixed_line =
-    spelled
-    "class: state: action: $FWPART_$TOP$ $ANY$ $ALL$ when move_to do stay_in_state if then else endif and or not in_state not_in_state FwCHILDREN ( ) { } ,"
-
-unfoldable pub fixed_starts : List ℕ
-fixed_starts =
-    0 ∷ 7 ∷ 14 ∷ 22 ∷ 36 ∷ 42 ∷ 48 ∷ 53 ∷ 61 ∷ 64 ∷ 78 ∷ 81 ∷ 86 ∷ 91 ∷ 97 ∷ 101 ∷ 104 ∷ 108 ∷ 117 ∷ 130 ∷ 141 ∷ 143 ∷ 145 ∷ 147 ∷ 149 ∷ 151 ∷ []
+-- the number of a word in a table; none, if it is not there
+abbrev pub Numbered : List (List ℕ) → List ℕ → Option ℕ → Type 0
+Numbered table word r = MatchOption r (position table word ≡ length table) (λ k. (k ≡ position table word) × (k < length table))

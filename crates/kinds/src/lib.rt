@@ -1,12 +1,13 @@
 // Which word the bytes are: two strings compared, the number of a fixed word, a name.
 #![tactic(auto)]
 
-ghost use Rattle.std.specs.Prelude.{◌≡◌, [], ◌-◌, ◌<◌, ◌≤◌, length, get_or, take, drop, eqb};
+ghost use Rattle.std.specs.Prelude.{◌≡◌, ◌<◌, map, eqb, MatchOption};
 ghost use Rattle.model.specs.Words.{every};
 ghost use Rattle.grammar.specs.Words.{name_char, same, position, fixed_words, bare_runs, is_name};
-ghost use Rattle.kinds.specs.Kind.{OfKind, fixed_line, fixed_starts};
+ghost use Rattle.kinds.specs.Kind.{OfKind, Numbered};
 
-// The kinds of words: a name, the fixed words in the order of their numbers, the end.
+// The kinds of words: a name, the fixed words in the order of their numbers, the end. They are numbers, since `fixed` of grammar/specs/Grammar
+// and `kind_of` and `token_as` of grammar/specs/Kinds speak of a fixed word by its number.
 pub const NAME: u8 = 0;
 
 pub const CLASS: u8 = 1;
@@ -61,94 +62,79 @@ pub const COMMA: u8 = 25;
 
 pub const END: u8 = 26;
 
+// No word of the grammar.
+const NOWHERE: u8 = 27;
+
 // Two strings of bytes are the same.
 pub fn is_same(a: &[u8], b: &[u8]) -> bool
     ensures { result ≡ same a.now b.now }
 {
-    if a.len() != b.len() {
-        return false;
-    }
-    let mut i = 0;
-    while i < a.len() {
-        if a[i] != b[i] {
-            return false;
-        }
-        i = i + 1;
-    }
-    true
+    a == b
 }
 
-// Where the fixed words start in their line, each one blank behind the last.
-const STARTS: [usize; 26] = [
-    0, 7, 14, 22, 36, 42, 48, 53, 61, 64, 78, 81, 86, 91, 97, 101, 104, 108, 117, 130, 141, 143,
-    145, 147, 149, 151,
-];
-
-// A word is what stands between two places of a line.
-fn is_part(line: &[u8], from: usize, to: usize, word: &[u8]) -> bool
-    requires { (from ≤ to) × (to ≤ length line.now) }
-    ensures { result ≡ same (take (to - from) (drop from line.now)) word.now }
+// The number of a word in a table, if it is there.
+fn number_among(table: &[&[u8]], word: &[u8]) -> Option<usize>
+    ensures { Numbered (map (λ t. t.now) table.now) word.now result }
 {
-    is_same(&line[from..to], word)
+    table.iter().position(|entry| is_same(entry, word))
 }
 
-// It is the fixed word of that number, in their line.
-fn is_fixed(line: &[u8], starts: &[usize], k: usize, word: &[u8]) -> bool
-    requires { (line.now ≡ fixed_line) × ((starts.now ≡ fixed_starts) × (k < 25)) }
-    ensures { result ≡ same (get_or fixed_words k []) word.now }
+// The number of the fixed word, if it is one.
+pub fn fixed_number(word: &[u8]) -> Option<usize>
+    ensures { MatchOption result (position fixed_words word.now ≡ 25) (λ k. (k ≡ position fixed_words word.now) × (k < 25)) }
 {
-    let from = starts[k];
-    let to = starts[k + 1] - 1;
-    is_part(line, from, to, word)
-}
-
-// The number of the fixed word; 25 if it is none.
-pub fn fixed_number(word: &[u8]) -> usize
-    ensures { (result ≡ position fixed_words word.now) × (result ≤ 25) }
-{
-    let line =
-        b"class: state: action: $FWPART_$TOP$ $ANY$ $ALL$ when move_to do stay_in_state if then else endif and or not in_state not_in_state FwCHILDREN ( ) { } ,";
-    let starts = STARTS;
-    let mut k = 0;
-    while k < 25 {
-        if is_fixed(line, &starts, k, word) {
-            return k;
-        }
-        k = k + 1;
-    }
-    k
+    let fixed: [&[u8]; 25] = [
+        b"class:",
+        b"state:",
+        b"action:",
+        b"$FWPART_$TOP$",
+        b"$ANY$",
+        b"$ALL$",
+        b"when",
+        b"move_to",
+        b"do",
+        b"stay_in_state",
+        b"if",
+        b"then",
+        b"else",
+        b"endif",
+        b"and",
+        b"or",
+        b"not",
+        b"in_state",
+        b"not_in_state",
+        b"FwCHILDREN",
+        b"(",
+        b")",
+        b"{",
+        b"}",
+        b",",
+    ];
+    number_among(&fixed, word)
 }
 
 // No run of which fixed words are made.
 fn is_plain(word: &[u8]) -> bool
     ensures { result ≡ eqb (position bare_runs word.now) 7 }
 {
-    !(is_same(b"class", word)
-        | (is_same(b"state", word)
-            | (is_same(b"action", word)
-                | (is_same(b"FWPART_", word)
-                    | (is_same(b"TOP", word) | (is_same(b"ANY", word) | is_same(b"ALL", word)))))))
+    let bare: [&[u8]; 7] = [
+        b"class", b"state", b"action", b"FWPART_", b"TOP", b"ANY", b"ALL",
+    ];
+    number_among(&bare, word).is_none()
 }
 
 // A character of names.
 pub fn is_name_char(b: u8) -> bool
     ensures { result ≡ name_char b }
 {
-    ((65 <= b) & (b <= 90)) | (((97 <= b) & (b <= 122)) | (((48 <= b) & (b <= 57)) | (b == 95)))
+    b.is_ascii_alphanumeric() | (b == b'_')
 }
 
 // Every byte is a character of names.
 fn all_name_chars(word: &[u8]) -> bool
     ensures { result ≡ every name_char word.now }
 {
-    let mut i = 0;
-    while i < word.len() {
-        if !is_name_char(word[i]) {
-            return false;
-        }
-        i = i + 1;
-    }
-    true
+    word.iter().all(|b| is_name_char(*b))
 }
 
 // A name: 1 to 31 of its characters, and no word of the grammar.
@@ -164,7 +150,7 @@ pub fn is_name(word: &[u8]) -> bool
     if !all_name_chars(word) {
         return false;
     }
-    if fixed_number(word) < 25 {
+    if fixed_number(word).is_some() {
         return false;
     }
     is_plain(word)
@@ -174,12 +160,8 @@ pub fn is_name(word: &[u8]) -> bool
 pub fn kind_of(word: &[u8]) -> u8
     ensures { OfKind word.now result }
 {
-    let number = fixed_number(word);
-    if number < 25 {
+    if let Some(number) = fixed_number(word) {
         return number as u8 + 1;
     }
-    if is_name(word) {
-        return 0;
-    }
-    27
+    if is_name(word) { NAME } else { NOWHERE }
 }

@@ -1,8 +1,8 @@
 use Rattle.model.specs.Words.{listed}
-use Rattle.grammar.specs.Words.{spelled}
-use Rattle.kinds.proofs.Laws.{bare_of}
+use Rattle.grammar.specs.Words.{spelled, bare_runs}
+use Rattle.kinds.proofs.Laws.{none_numbered}
 use Rattle.kinds.proofs.is_plain.Goals as goal
 
 pub returns : goal.returns
-unfolding spelled listed
-returns c = bare_of _ _ _ _ _ _ _ _ c.is_same.ensures c.is_same-2.ensures c.is_same-3.ensures c.is_same-4.ensures c.is_same-5.ensures c.is_same-6.ensures c.is_same-7.ensures
+unfolding bare_runs spelled listed
+returns c = none_numbered bare_runs _ _ _ c.number_among.ensures c.is_none.ensures
