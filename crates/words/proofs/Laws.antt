@@ -7,7 +7,7 @@ use mathlib.Core.Path.{◌≡◌, refl, sym, ◌∙◌, ap, subst}
 use mathlib.Core.Bool.{Bool, true, false, ◌||◌, and-false}
 use mathlib.Core.List.{List, [], ◌∷◌}
 use lib.Dec.{eqb}
-use lib.ListN.{length, get_or, take, drop, length-take, length-drop, get_or-eq_default, drop_of_length-le}
+use lib.ListN.{length, get_or, take, drop, length-drop, get_or-eq_default, drop_of_length-le}
 use lib.Seq.{drop-cons, drop-length, drop-drop, get_or-drop}
 use borrow.Author.Tests.{eq-eqb, ne_eqb}
 use Rattle.grammar.specs.Grammar.{fixed, end_word}
@@ -15,7 +15,6 @@ use Rattle.grammar.specs.Words.{Word, white, name_char, same, run_length, begins
 use Rattle.grammar.proofs.Words.{cut_white, cut_word, word_fits, Fits}
 use Rattle.words.specs.Scanning.{words_from, Skipped, Next, behind, RunEnds}
 use Rattle.kinds.specs.Kind.{OfKind}
-use Rattle.kinds.proofs.Laws.{same_apart}
 use Rattle.grammar.specs.Kinds.{token_as}
 
 pub record Skipping (text : List ℕ) (at i : ℕ) : Type 0 where
@@ -37,8 +36,10 @@ skip_on text at i s l w =
 pub skip_found : (text : List ℕ) (at i : ℕ) → Skipping text at i → white (get_or text i 0) ≡ false → Skipped text at i
 skip_found text at i s w = record { words = s.words; onward = s.onward; inside = s.inside; seen = λ _. w }
 
-pub skip_end : (text : List ℕ) (at i : ℕ) → Skipping text at i → length text ≤ i → Skipped text at i
-skip_end text at i s h = record { words = s.words; onward = s.onward; inside = s.inside; seen = λ l. absurd (omega arith) }
+pub skip_end : (text : List ℕ) (at i : ℕ) → Skipping text at i → length text ≤ i → Skipped text at (length text)
+skip_end text at i s h =
+    let n : i ≡ length text = (let z = s.inside in omega arith) in
+    subst (Skipped text at) n (record { words = s.words; onward = s.onward; inside = s.inside; seen = λ l. absurd (omega arith) })
 
 -- the run goes on
 pub record Running (text : List ℕ) (at i : ℕ) : Type 0 where
@@ -76,17 +77,11 @@ nil_run : run_length [] ≡ 0
 unfolding run_length
 nil_run = refl
 
-pub run_over : (text : List ℕ) (at i : ℕ) → Running text at i → length text ≤ i → RunEnds text at i
+pub run_over : (text : List ℕ) (at i : ℕ) → Running text at i → length text ≤ i → RunEnds text at (length text)
 run_over text at i s h =
     let n : i ≡ length text = (let z = s.inside in omega arith) in
     let e : run_length (drop i text) ≡ 0 = ap (λ (j : ℕ). run_length (drop j text)) n ∙ (ap run_length (drop-length text) ∙ nil_run) in
-    record { run = omega (arith, s.run); onward = s.onward; inside = s.inside }
-
--- a word that is longer than what is left does not stand there
-pub begins_not : (w text : List ℕ) (at : ℕ) → length text - at < length w → begins w (drop at text) ≡ false
-begins_not w text at h =
-    same_apart w (take (length w) (drop at text))
-    (λ e. let a = length-take (length w) (drop at text) in let b = length-drop at text in omega (arith, a, b, e))
+    subst (RunEnds text at) n (record { run = omega (arith, s.run); onward = s.onward; inside = s.inside })
 
 -- the end of a word, by its first byte
 by_name : (b : ℕ) (bs : List ℕ) → name_char b ≡ true → word_length (b ∷ bs) ≡ run_end (b ∷ bs) (run_length (b ∷ bs))
@@ -108,10 +103,6 @@ end_name text at end r l h e f =
     let w : word_length (drop at text) ≡ run_end (drop at text) (run_length (drop at text)) =
     subst (λ (x : List ℕ). word_length x ≡ run_end x (run_length x)) (sym (drop-cons text at 0 l)) (by_name (get_or text at 0) (drop (suc at) text) h) in
     f ∙ (ap (λ (k : ℕ). at + run_end (drop at text) k) n ∙ ap (λ (k : ℕ). at + k) (sym w))
-
--- a word of that length is compared
-pub begins_of : (w text : List ℕ) (at : ℕ) (r : Bool) → r ≡ same w (take (at + length w - at) (drop at text)) → r ≡ begins w (drop at text)
-begins_of w text at r e = e ∙ ap (λ (k : ℕ). same w (take k (drop at text))) (let z : at + length w - at ≡ length w = omega arith in z)
 
 pub end_other : (text : List ℕ) (at : ℕ) → at < length text → name_char (get_or text at 0) ≡ false → (get_or text at 0 ≡ 36 → ⊥) → at + 1 ≡ at + word_length (drop at text)
 end_other text at l h e =

@@ -17,14 +17,12 @@ fn skip_white(text: &[u8], at: usize) -> usize
     requires { at ≤ length text.now }
     ensures { Skipped text.now at result }
 {
-    let mut i = at;
-    while i < text.len() {
+    for i in at..text.len() {
         if !is_white(text[i]) {
             return i;
         }
-        i = i + 1;
     }
-    i
+    text.len()
 }
 
 // The end of the run that stands at a place.
@@ -32,14 +30,12 @@ fn end_of_run(text: &[u8], at: usize) -> usize
     requires { at ≤ length text.now }
     ensures { RunEnds text.now at result }
 {
-    let mut i = at;
-    while i < text.len() {
+    for i in at..text.len() {
         if !kinds::is_name_char(text[i]) {
             return i;
         }
-        i = i + 1;
     }
-    i
+    text.len()
 }
 
 // The word stands at a place.
@@ -47,12 +43,7 @@ fn stands(word: &[u8], text: &[u8], at: usize) -> bool
     requires { at ≤ length text.now }
     ensures { result ≡ begins word.now (drop at text.now) }
 {
-    let n = word.len();
-    if text.len() - at < n {
-        return false;
-    }
-    let end = at + n;
-    kinds::is_same(word, &text[at..end])
+    text[at..].starts_with(word)
 }
 
 // The end of a run, with the colon of class: state: action:
@@ -109,7 +100,7 @@ fn end_word(at: usize) -> Word
     ensures { (result.kind ≡ 26) × ((result.start ≡ at) × (result.end ≡ at)) }
 {
     Word {
-        kind: 26,
+        kind: kinds::END,
         start: at,
         end: at,
     }
@@ -128,9 +119,5 @@ pub fn next_word(text: &[u8], at: usize) -> Word
     }
     let end = word_end(text, start);
     let kind = kinds::kind_of(&text[start..end]);
-    Word {
-        kind: kind,
-        start: start,
-        end: end,
-    }
+    Word { kind, start, end }
 }

@@ -1,13 +1,11 @@
-use mathlib.Core.Path.{sym}
-use Rattle.words.proofs.Laws.{begins_not, begins_of}
+use native.Mathlib.Omega.{arith}
+use mathlib.Core.Path.{◌∙◌, ap}
+use lib.ListN.{length}
+use Rattle.std.proofs.lemmas.Slice.{between_to_end}
+use Rattle.grammar.specs.Words.{begins}
+use Rattle.kinds.proofs.Laws.{same_is}
 use Rattle.words.proofs.stands.Goals as goal
-
-pub returns-then-text-at : goal.returns-then-text-at
-returns-then-text-at c =
-    let a = c.args in
-    sym (begins_not a.word.now a.text.now a.at c.if-text-at.true)
 
 pub returns : goal.returns
 returns c =
-    let a = c.args in
-    begins_of a.word.now a.text.now a.at _ c.is_same.ensures
+    c.starts_with.ensures.value ∙ same_is _ _ ∙ ap (begins c.args.word.now) (between_to_end c.args.text.now c.args.at (length c.args.text.now) (omega arith))
