@@ -1,8 +1,7 @@
 // What is wrong with a line of a head, and the word that shows it.
-use crate::{LINE, Why, at_word};
+use crate::{Message, Said, Why, put};
 use classfile::parts::Fault;
 use kinds::is_name_char;
-use texts::writing::least;
 
 // A word has more characters than a name may have.
 pub fn is_long(start: usize, end: usize) -> bool {
@@ -14,51 +13,58 @@ pub fn is_long(start: usize, end: usize) -> bool {
 
 // Every byte from one place of the file to another is a character of names.
 fn all_name_chars(file: &[u8], from: usize, to: usize) -> bool {
-    let end = least(to, file.len());
-    let mut i = from;
-    while i < end {
+    for i in from..to.min(file.len()) {
         if !is_name_char(file[i]) {
             return false;
         }
-        i = i + 1;
     }
     true
 }
 
-// Why a word is no name.
-fn no_name(file: &[u8], start: usize, end: usize) -> u8 {
+// Says why a word is no name.
+fn say_no_name(file: &[u8], start: usize, end: usize) {
     if !all_name_chars(file, start, end) {
-        return 72;
+        put(b" is no name: a name has letters, digits and underscores only");
+    } else if is_long(start, end) {
+        put(b" is no name: a name has at most 31 characters");
+    } else {
+        put(b" is no name: it is a word of the class text");
     }
-    if is_long(start, end) {
-        return 73;
-    }
-    74
 }
 
-// What is wrong with a line of the head.
-fn fault_message(fault: Fault) -> u8 {
+// Says what is wrong with a line of the head, behind the word that shows it.
+pub fn say_fault(file: &[u8], fault: Fault, start: usize, end: usize) {
     match fault {
-        Fault::UnknownLine => 64,
-        Fault::LineTwice => 65,
-        Fault::NoName => 72,
-        Fault::NameTwice => 66,
-        Fault::TooMany => 67,
-        Fault::NotListed => 68,
-        Fault::NoClass => 69,
-        Fault::NoStates => 70,
-        Fault::NoEmptyLine => 71,
+        Fault::UnknownLine => put(
+            b" begins no line of a head; names, commands and class do, and an empty line ends it",
+        ),
+        Fault::LineTwice => put(b" begins a line for the second time"),
+        Fault::NoName => say_no_name(file, start, end),
+        Fault::NameTwice => put(b" stands twice"),
+        Fault::TooMany => put(
+            b" is one too many: there are at most 32 names, 64 commands and 8 classes",
+        ),
+        Fault::NotListed => put(
+            b" is not among the names; the names line stands before the class lines",
+        ),
+        Fault::NoClass => put(b"a class line without a name"),
+        Fault::NoStates => put(b"a class without states"),
+        Fault::NoEmptyLine => put(b"the file ends before the empty line that ends the head"),
     }
 }
 
 // A line of a head is wrong; a word shows it, or the end of the line or of the file.
 pub fn wrong_line(file: &[u8], fault: Fault, start: usize, end: usize) -> Why {
-    let message = fault_message(fault);
-    if message == 72 {
-        return at_word(no_name(file, start, end), LINE, start, end);
+    let shown = match fault {
+        Fault::NoClass | Fault::NoStates | Fault::NoEmptyLine => start,
+        _ => end,
+    };
+    Why {
+        message: Message::Head(fault),
+        said: Said::Line,
+        start,
+        end: shown,
+        first: 0,
+        second: 0,
     }
-    if message < 69 {
-        return at_word(message, LINE, start, end);
-    }
-    at_word(message, LINE, start, start)
 }

@@ -1,8 +1,6 @@
 // Places of a file, as an editor shows them.
 ghost use Rattle.std.specs.Prelude.{◌≤◌, length};
 
-use texts::writing::least;
-
 // Lines and columns count from 1; each byte is a column, a tab too.
 #[derive(Clone, Copy)]
 pub struct Place {
@@ -12,21 +10,18 @@ pub struct Place {
 
 // The line and the column of a place; of one past the end, those of the end.
 pub fn place_of(file: &[u8], at: usize) -> Place {
-    let end = least(at, file.len());
+    let end = at.min(file.len());
     let mut line = 1;
     let mut begins = 0;
-    let mut i = 0;
-    while i < end {
-        let byte = file[i];
-        i = i + 1;
-        if byte == 10 {
-            line = line + 1;
-            begins = i;
+    for (i, b) in file[..end].iter().enumerate() {
+        if *b == b'\n' {
+            line += 1;
+            begins = i + 1;
         }
     }
     Place {
-        line: line,
-        column: i - begins + 1,
+        line,
+        column: end - begins + 1,
     }
 }
 

@@ -1,8 +1,7 @@
-use Prim.Native.Nat.{◌+◌, ◌-◌, ◌≤◌}
+-- A line begins no later than the place, and there are no more lines than places up to it.
+-- Assumes nothing.
+use Prim.Native.Nat.{◌+◌, ◌≤◌}
 use Rattle.saying.proofs.places.place_of.Given as goal
 
 abbrev pub invariant-loop-i : goal.invariant-loop-i
-invariant-loop-i l = (l.line ≤ l.i + 1) × (l.begins ≤ l.i) × (l.i ≤ l.end)
-
-abbrev pub decreases-loop-i : goal.decreases-loop-i
-decreases-loop-i l = l.end - l.i
+invariant-loop-i l = (l.line ≤ l.i + 1) × (l.begins ≤ l.i)
