@@ -43,10 +43,6 @@ module _ (classes sets : List ℕ) (n : ℕ) where
   unfolding sets_alike
   sets_more k h = sym (same_apart (sets_in classes) (sets_of sets) (λ e. h (sym (lent_count classes n k) ∙ e ∙ body_count sets)))
 
-  -- before the first turn
-  pub sets_start : Count classes 36 n → n ≡ in_fours sets → Alike classes sets n 0
-  sets_start k e = record { count = k; many = e; inside = omega arith; decides = refl }
-
   module _ (i : ℕ) (a : Alike classes sets n i) where
     -- after the last
     pub sets_over : n ≤ i → true ≡ sets_alike classes sets

@@ -55,12 +55,10 @@ fn records_named(g: &[u8], first: usize, n: usize, names: usize) -> bool
     requires { first + n ≤ 1024 }
     ensures { result ≡ records_named names g.now first n }
 {
-    let mut i = 0;
-    while i < n {
+    for i in 0..n {
         if !record_named(g, first + i, names) {
             return false;
         }
-        i = i + 1;
     }
     true
 }
@@ -94,11 +92,9 @@ fn whens_tally(whens: &[u8], g: &[u8], names: usize) -> Tally
         named: true,
         count: 0,
     };
-    let mut w = 0;
-    while w < n {
+    for w in 0..n {
         let one = guard_tally(g, guard_place(whens, w), names);
         all = join(all, one);
-        w = w + 1;
     }
     all
 }
@@ -109,12 +105,10 @@ fn commands_named(actions: &[u8], commands: usize) -> bool
     ensures { result ≡ commands_named commands actions.now }
 {
     let n = actions.len() / 4;
-    let mut a = 0;
-    while a < n {
+    for a in 0..n {
         if commands <= action_command(actions, a) as usize {
             return false;
         }
-        a = a + 1;
     }
     true
 }
@@ -152,11 +146,9 @@ fn statements_tally(statements: &[u8], g: &[u8], names: usize, commands: usize) 
         named: true,
         count: 0,
     };
-    let mut i = 0;
-    while i < n {
+    for i in 0..n {
         let one = statement_tally(record_at(statements, i), g, names, commands);
         all = join(all, one);
-        i = i + 1;
     }
     all
 }
@@ -198,12 +190,10 @@ fn sets_alike(classes: &[u8], sets: &[u8]) -> bool
     if n != sets.len() / 4 {
         return false;
     }
-    let mut i = 0;
-    while i < n {
+    for i in 0..n {
         if class_set(classes, i) != name_set(sets, i) {
             return false;
         }
-        i = i + 1;
     }
     true
 }

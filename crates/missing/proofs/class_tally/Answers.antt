@@ -17,9 +17,6 @@ statements_tally-parts-requires c =
     let s = c.requires in
     (body_short _ _ s 5 (omega arith) _ c.body_of-3.ensures, body_short _ _ s 3 (omega arith) _ c.body_of-guards.ensures)
 
-pub overflow_add-result : goal.overflow_add-result
-overflow_add-result c = omega (arith, c.statements_tally-parts.ensures.1, c.whens_tally-whens.ensures.1)
-
 pub returns : goal.returns
 returns c =
     class_told _ _ c.requires _ _ _ _ _ _ c.body_of-guards.ensures c.body_of.ensures c.body_of-2.ensures c.body_of-3.ensures

@@ -1,6 +1,5 @@
 -- `commands_named` meets its contract. The loop's invariant: the commands of the first a action clauses have names.
 -- Assumes nothing.
-use Prim.Native.Nat.{◌-◌, ◌≤◌}
 use mathlib.Core.Path.{◌≡◌}
 use mathlib.Core.Bool.{true}
 use Rattle.model.specs.Words.{each}
@@ -8,7 +7,4 @@ use Rattle.missing.specs.Tallies.{command_named}
 use Rattle.missing.proofs.commands_named.Given as goal
 
 abbrev pub invariant-loop-a : goal.invariant-loop-a
-invariant-loop-a l = (l.a ≤ l.n) × (each l.a (command_named l.commands l.actions) ≡ true)
-
-abbrev pub decreases-loop-a : goal.decreases-loop-a
-decreases-loop-a l = l.n - l.a
+invariant-loop-a l = each l.a (command_named l.commands l.actions) ≡ true

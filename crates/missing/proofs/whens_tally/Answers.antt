@@ -9,11 +9,6 @@ use Rattle.missing.proofs.whens_tally.Goals as goal
 pub loop-w-init : goal.loop-w-init
 loop-w-init c = summed_none _ _
 
-pub join-all-requires : goal.join-all-requires
-join-all-requires c =
-    let l = c.loop-w.invariant in
-    (omega (arith, l.small, l.inside), omega (arith, c.guard_tally-one.ensures.1))
-
 pub loop-w-preserved : goal.loop-w-preserved
 loop-w-preserved c =
     let a = c.args in
