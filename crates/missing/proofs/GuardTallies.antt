@@ -7,13 +7,13 @@ use mathlib.Core.Bool.{Bool, true}
 use mathlib.Core.List.{List}
 use lib.Dec.{eqb, leb, ltb}
 use lib.ListN.{length, length-append}
+use Rattle.std.specs.Prelude.{Some, None}
 use Rattle.model.specs.Words.{each, has}
 use Rattle.model.specs.Tree.{Guard, both, either, opposite}
 use Rattle.model.proofs.Words.{choose_case}
 use Rattle.records.specs.Bytes.{byte, record_at}
 use Rattle.records.specs.GuardRecords.{Read, got, broken, Operator, two, one, Record, leaf, operator, unknown, operator_of, record_of, guard_record, joined as joined_read, shaped, guard_with, guard_at, guard_from}
 use Rattle.records.specs.Ends.{end_of}
-use Rattle.records.specs.declared.guards.End.TheVariants.{At, Broken}
 use Rattle.records.proofs.GuardLaws.{read_case, known_there, end_got, end_broken}
 use Rattle.naming.specs.NameLists.{bits_named}
 use Rattle.encoding.specs.Encoding.{guard_records}
@@ -118,7 +118,7 @@ module _ (n : ℕ) where
     spans (suc d) i = shaped_spans (guard_at d gs) (spans d) i (guard_record gs i) refl (record_plain i)
 
     -- a guard that ends somewhere ends inside, behind where it begins
-    pub guard_inside : (i e : ℕ) → end_of (guard_at 16 gs i) ≡ At e → (i ≤ e) × (e ≤ length gs / 8)
+    pub guard_inside : (i e : ℕ) → end_of (guard_at 16 gs i) ≡ Some e → (i ≤ e) × (e ≤ length gs / 8)
     unfolding Spans
     guard_inside i e h =
         let (g, p) = end_got 16 gs i e h in
@@ -126,7 +126,7 @@ module _ (n : ℕ) where
         (omega arith, b)
 
     -- and is the guard of the records up to there
-    pub guard_told : (i e : ℕ) → end_of (guard_at 16 gs i) ≡ At e → (t : Bool) → t ≡ records_named n gs i (e - i) → record { named = t; count = e - i } ≡ place_tally n gs i
+    pub guard_told : (i e : ℕ) → end_of (guard_at 16 gs i) ≡ Some e → (t : Bool) → t ≡ records_named n gs i (e - i) → record { named = t; count = e - i } ≡ place_tally n gs i
     unfolding Spans place_tally guard_from records_named
     guard_told i e h t f =
         let (g, p) = end_got 16 gs i e h in
@@ -140,6 +140,6 @@ unfolding bits_named each has
 no_bits n = refl
 
 -- where no guard begins, the class has one that is one record
-pub guard_none : (n : ℕ) (gs : List ℕ) (i : ℕ) → end_of (guard_at 16 gs i) ≡ Broken → record { named = true; count = 1 } ≡ place_tally n gs i
+pub guard_none : (n : ℕ) (gs : List ℕ) (i : ℕ) → end_of (guard_at 16 gs i) ≡ None → record { named = true; count = 1 } ≡ place_tally n gs i
 unfolding place_tally guard_tally guard_named guard_records guard_from
 guard_none n gs i h = rw (end_broken 16 gs i h) (same_tally (one_with true) (one_with (bits_named n 0)) (no_bits n) refl)

@@ -16,7 +16,7 @@ use bodies::clauses::{action_command, guard_place, name_set};
 use bodies::statements::{StatementRecord, statement_record};
 use lent::{bits_named, list_right, lists_right, record_right};
 use lists::{class_set, record_count};
-use records::guards::{End, GuardRecord, guard_end, guard_record};
+use records::guards::{GuardRecord, guard_end, guard_record};
 use records::words::record_at;
 use sheet::judging::Places;
 
@@ -68,8 +68,7 @@ fn guard_tally(g: &[u8], place: usize, names: usize) -> Tally
     requires { length g.now ≤ 8192 }
     ensures { (result ≡ place_tally names g.now place) × (result.count ≤ 1024) }
 {
-    let end = guard_end(g, place, 16);
-    let End::At(stop) = end else {
+    let Some(stop) = guard_end(g, place, 16) else {
         return Tally {
             named: true,
             count: 1,
