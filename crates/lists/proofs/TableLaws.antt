@@ -12,7 +12,7 @@ use Rattle.model.specs.Words.{choose, every, some_in, listed}
 use Rattle.model.proofs.Words.{clash}
 use Rattle.grammar.specs.Words.{same, position}
 use Rattle.naming.specs.NameLists.{none_twice}
-use Rattle.std.specs.Prelude.{Some, None}
+use Rattle.std.specs.Prelude.{Some, None, is_some}
 use Rattle.lists.specs.Lent.{found_from, behind}
 
 -- what is left of a table of n entries from entry i on
@@ -161,3 +161,11 @@ module _ (k : ℕ) (ts : List (List ℕ)) (w : List ℕ) where
           → ltb (position ts w) (length ts) ≡ false
       go true h e = absurd (clash (cc))
       go false h e = h
+
+  pub found_told : is_some (found_from k ts w) ≡ ltb (position ts w) (length ts)
+  unfolding found_from
+  found_told = go (ltb (position ts w) (length ts))
+    where
+      go : (b : Bool) → is_some (choose b (λ _. Some (k + position ts w)) (λ _. None)) ≡ b
+      go true = refl
+      go false = refl

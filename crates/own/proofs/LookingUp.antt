@@ -14,8 +14,8 @@ use Rattle.model.proofs.Lists.{length_listed}
 use Rattle.grammar.specs.Grammar.{Name}
 use Rattle.grammar.specs.Words.{same, position}
 use Rattle.lists.specs.Lent.{found_from}
-use Rattle.std.specs.Prelude.{Option, Some, None}
-use Rattle.lists.proofs.TableLaws.{found_head, found_tail, found_none, found_at, found_nowhere}
+use Rattle.std.specs.Prelude.{Option, Some, None, is_some}
+use Rattle.lists.proofs.TableLaws.{found_head, found_tail, found_none, found_told}
 use Rattle.naming.specs.NameLists.{none_twice}
 use Rattle.naming.specs.Known.{among}
 use Rattle.words.specs.Scanning.{stretch}
@@ -84,13 +84,13 @@ module _ (ns : List Name) (text : List ℕ) (kind stop from : ℕ) where
   none_over e = rw e
 
   module _ (start end : ℕ) (h : Here text kind stop from start end) (r : Option ℕ) (e : r ≡ found_from 0 ns (stretch text start end)) where
-    pub none_broken : (i : ℕ) → r ≡ Some i → every (none_of ns) (names_from text kind stop from) ≡ false
+    pub none_broken : is_some r ≡ true → every (none_of ns) (names_from text kind stop from) ≡ false
     unfolding every none_of among
-    none_broken i f = rw (h.names, (found_at 0 ns (stretch text start end) i (sym e ∙ f)).0)
+    none_broken f = rw (h.names, sym (found_told 0 ns (stretch text start end)) ∙ ap is_some (sym e) ∙ f)
 
-    pub none_on : r ≡ None → every (none_of ns) (names_from text kind stop from) ≡ every (none_of ns) (names_from text kind stop end)
+    pub none_on : is_some r ≡ false → every (none_of ns) (names_from text kind stop from) ≡ every (none_of ns) (names_from text kind stop end)
     unfolding every none_of among
-    none_on f = rw (h.names, found_nowhere 0 ns (stretch text start end) (sym e ∙ f))
+    none_on f = rw (h.names, sym (found_told 0 ns (stretch text start end)) ∙ ap is_some (sym e) ∙ f)
 
 -- one of a name and others
 among_more : (x : Name) (xs : List Name) (n : Name) → among (x ∷ xs) n ≡ (same x n || among xs n)
