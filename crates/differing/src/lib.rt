@@ -10,8 +10,7 @@ ghost use Rattle.own.specs.Ahead.{names_from};
 ghost use Rattle.own.specs.Held.{Kinds, held, none_of, Places};
 
 use kinds::is_same;
-use lists::Found;
-use own::{Named, among_held, empty_table, hold, name_held, next_named};
+use own::{among_held, empty_table, hold, name_held, next_named};
 
 // Name i of a table stands in it again, behind that place.
 fn held_again(text: &[u8], table: &[usize], count: usize, i: usize) -> bool
@@ -19,12 +18,10 @@ fn held_again(text: &[u8], table: &[usize], count: usize, i: usize) -> bool
     ensures { result ≡ some_in (same (held text.now table.now i)) (behind (held text.now table.now) count i) }
 {
     let name = name_held(text, table, count, i);
-    let mut j = i + 1;
-    while j < count {
+    for j in i + 1..count {
         if is_same(name, name_held(text, table, count, j)) {
             return true;
         }
-        j = j + 1;
     }
     false
 }
@@ -34,12 +31,10 @@ fn held_differ(text: &[u8], table: &[usize], count: usize) -> bool
     requires { Places text.now table.now count }
     ensures { result ≡ none_twice (listed 0 count (held text.now table.now)) }
 {
-    let mut i = 0;
-    while i < count {
+    for i in 0..count {
         if held_again(text, table, count, i) {
             return false;
         }
-        i = i + 1;
     }
     true
 }
@@ -50,21 +45,13 @@ fn none_held(text: &[u8], table: &[usize], count: usize, at: usize, kind: u8, st
     ensures { result ≡ every (none_of (listed 0 count (held text.now table.now))) (names_from text.now kind stop at) }
 {
     let mut from = at;
-    loop {
-        let named = next_named(text, from, kind, stop);
-        match named {
-            Named::At(start, end) => {
-                from = end;
-                let found = among_held(text, table, count, &text[start..end]);
-                if let Found::At(_) = found {
-                    return false;
-                }
-            }
-            Named::Nowhere => {
-                return true;
-            }
+    while let Some((start, end)) = next_named(text, from, kind, stop) {
+        if among_held(text, table, count, &text[start..end]).is_some() {
+            return false;
         }
+        from = end;
     }
+    true
 }
 
 // No name stands twice among those from a place on: table by table, each name against those of its table, and these against all that follow.
