@@ -17,10 +17,6 @@ use Rattle.grammar.specs.Reading.{Says}
 use Rattle.naming.specs.NameLists.{Lists, child_names, command_names, class_names, listed_in, none_twice}
 use Rattle.naming.specs.Naming.{own_names}
 use Rattle.naming.specs.Known.{among, text_known}
-use Rattle.lists.specs.Lent.{found_from}
-use Rattle.lists.specs.declared.Found.{Found}
-use Rattle.lists.specs.declared.Found.TheVariants.{At, Nowhere}
-use Rattle.lists.proofs.TableLaws.{found_at, found_nowhere}
 use Rattle.words.specs.Scanning.{words_from, tokens_from, stretch, Next}
 use Rattle.words.proofs.Turns.{turn, last, kind_as, bytes_as}
 use Rattle.own.specs.Ahead.{names_ahead, names_from}
@@ -29,16 +25,6 @@ use Rattle.own.proofs.Trees.{own_from}
 use Rattle.own.proofs.HeldLaws.{filled_holds}
 use Rattle.known.proofs.TreeLaws.{text_told}
 use Rattle.known.specs.Roles.{before_command, before_class, before_child, before_own, listed_for, own_for, action_for, name_known, word_known, actions_differ, referring_after, actions_after, Entered, words_known}
-
--- a name that was looked up
-module _ (ns : List Name) (w : Name) (r : Found) (e : r ≡ found_from 0 ns w) where
-  pub found_among : (i : ℕ) → r ≡ At i → true ≡ among ns w
-  unfolding among
-  found_among i f = sym (found_at 0 ns w i (sym e ∙ f)).0
-
-  pub found_not_among : r ≡ Nowhere → false ≡ among ns w
-  unfolding among
-  found_not_among f = sym (found_nowhere 0 ns w (sym e ∙ f))
 
 -- the list that is asked for
 module _ (l : Lists) (k : ℕ) (n : Name) (r : Bool) where

@@ -11,7 +11,7 @@ ghost use Rattle.own.specs.Held.{Kinds, all_names, Holds};
 ghost use Rattle.known.specs.Roles.{Known, action_for, own_for, listed_for, word_known, actions_differ, Entered, words_known};
 
 use differing::all_differ;
-use lists::{Found, number_in};
+use lists::number_in;
 use own::{Holding, empty_table, hold, number_of};
 use words::next_word;
 
@@ -20,11 +20,7 @@ fn is_listed(list: &[u8], size: usize, name: &[u8]) -> bool
     requires { 32 ≤ size }
     ensures { result ≡ listed_in (records_in size list.now) name.now }
 {
-    let found = number_in(list, size, name);
-    if let Found::At(_) = found {
-        return true;
-    }
-    false
+    number_in(list, size, name).is_some()
 }
 
 // The name is in the list that the word before it asks for.
@@ -56,11 +52,7 @@ fn is_among(
     requires { Kinds kind stop × Holds text.now table.now count rest }
     ensures { result ≡ among (all_names text.now table.now count kind stop rest) name.now }
 {
-    let found = number_of(text, table, count, rest, kind, stop, name);
-    if let Found::At(_) = found {
-        return true;
-    }
-    false
+    number_of(text, table, count, rest, kind, stop, name).is_some()
 }
 
 // The name is an own state, where the word before it asks for one: looked for before and behind it.
