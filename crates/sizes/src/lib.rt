@@ -24,35 +24,21 @@ pub fn tick(yes: bool, n: usize) -> usize
     requires { n < 18446744073709551615 }
     ensures { result ≡ tick yes n }
 {
-    if yes {
-        return n + 1;
-    }
-    n
+    if yes { n + 1 } else { n }
 }
 
 // One less, where the test holds; never less than none.
 fn untick(yes: bool, n: usize) -> usize
     ensures { result ≡ untick yes n }
 {
-    if yes {
-        if n == 0 {
-            return 0;
-        }
-        return n - 1;
-    }
-    n
+    if yes { n.saturating_sub(1) } else { n }
 }
 
 // The greater of two, where the test holds, else the first.
 fn raised(yes: bool, deepest: usize, ifs: usize) -> usize
     ensures { result ≡ raised yes deepest ifs }
 {
-    if yes {
-        if deepest < ifs {
-            return ifs;
-        }
-    }
-    deepest
+    if yes { deepest.max(ifs) } else { deepest }
 }
 
 // The word has a guard record: and, or, not, in_state, not_in_state.
