@@ -49,12 +49,10 @@ fn sets_right(classes: &[u8]) -> bool
     ensures { SetsTold classes.now result }
 {
     let n = record_count(classes, 36);
-    let mut i = 0;
-    while i < n {
+    for i in 0..n {
         if whole(class_set(classes, i)) == 0 {
             return false;
         }
-        i = i + 1;
     }
     true
 }
