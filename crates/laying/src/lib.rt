@@ -9,7 +9,7 @@ ghost use Rattle.own.specs.Ahead.{names_from};
 ghost use Rattle.laying.specs.Laying.{entry, contents_bytes, number_bytes, zeros_behind, sets_bytes, table_bytes};
 
 use lists::{class_set, record_count};
-use own::{Named, next_named};
+use own::next_named;
 use pen::{put_bytes, put_one, put_two};
 
 // One entry of the contents: where a body starts, and its length.
@@ -33,12 +33,10 @@ pub fn write_contents(out: &mut [u8], sizes: [u16; 6]) -> usize
 {
     let mut end: usize = 0;
     let mut start: usize = 24;
-    let mut k = 0;
-    while k < 6 {
-        let size = wide(sizes[k]);
+    for k in sizes.iter() {
+        let size = wide(*k);
         end = put_entry(out, end, start, size);
-        start = start + size;
-        k = k + 1;
+        start += size;
     }
     end
 }
@@ -58,10 +56,8 @@ pub fn write_classes(classes: &[u8], out: &mut [u8], at: usize) -> usize
 {
     let n = record_count(classes, 36);
     let mut end = at;
-    let mut i = 0;
-    while i < n {
+    for i in 0..n {
         end = put_number(out, end, class_set(classes, i));
-        i = i + 1;
     }
     end
 }
@@ -79,10 +75,8 @@ fn put_zeros(out: &mut [u8], at: usize, n: usize) -> usize
     ensures { Puts (zeros_behind n) out.old at out.new result }
 {
     let mut end = at;
-    let mut i = n;
-    while i < 32 {
+    for _ in n..32 {
         end = put_one(out, end, 0);
-        i = i + 1;
     }
     end
 }
@@ -93,16 +87,9 @@ pub fn write_table(text: &[u8], out: &mut [u8]) -> usize
 {
     let mut end: usize = 0;
     let mut at = 0;
-    loop {
-        let named = next_named(text, at, 2, 26);
-        match named {
-            Named::At(start, stop) => {
-                end = put_name(out, end, &text[start..stop]);
-                at = stop;
-            }
-            Named::Nowhere => {
-                return end;
-            }
-        }
+    while let Some((start, stop)) = next_named(text, at, 2, 26) {
+        end = put_name(out, end, &text[start..stop]);
+        at = stop;
     }
+    end
 }
