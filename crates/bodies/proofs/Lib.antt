@@ -1,5 +1,6 @@
 pub mod Computing
 pub mod CheckLaws
+pub mod Every
 pub mod ReaderLaws
 pub mod Parts
 pub mod PartLaws

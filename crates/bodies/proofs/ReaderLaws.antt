@@ -1,25 +1,21 @@
--- Laws about the readers of statement records: a law for each way out of `statement_record`, what a record tells of the bytes that it was
--- read of, and where records are cut.
+-- Laws about the readers of statement records: what a record tells of the bytes that it was read of, and that a list gets shorter by what
+-- is cut of it.
 -- Assumes nothing.
-use Prim.Native.Nat.{ℕ, zero, suc, ◌+◌, ◌*◌, ◌-◌, ◌/◌, ◌<◌, ◌≤◌}
+use Prim.Native.Nat.{ℕ, zero, suc, ◌+◌, ◌*◌, ◌<◌, ◌≤◌}
 use native.Mathlib.Omega.{arith}
-use mathlib.Core.Path.{◌≡◌, refl, sym, ◌∙◌, ap, subst}
+use mathlib.Core.Path.{◌≡◌, refl, sym, ap, subst}
 use mathlib.Core.Bool.{Bool, true, false}
 use mathlib.Core.List.{List}
 use lib.Dec.{eqb, ltb}
-use lib.ListN.{length, get_or, take, drop, length-take, length-drop, drop_of_length-le}
-use lib.Seq.{take_all}
-use borrow.Author.Tests.{ltb-true, ltb-false, lt-ltb, le-ltb, ne_eqb}
+use lib.ListN.{length, get_or, drop, length-take, length-drop}
+use borrow.Author.Tests.{ltb-true, ltb-false, lt-ltb, ne_eqb}
 use Rattle.model.specs.Words.{choose}
 use Rattle.model.specs.Tree.{everyone, of_class}
-use Rattle.model.specs.declared.OwnState.{OwnState}
-use Rattle.model.proofs.Words.{clash}
 use Rattle.records.specs.Bytes.{byte, u16, records_from}
 use Rattle.records.specs.GuardRecords.{pattern_of}
 use Rattle.records.specs.Patterns.{pattern_as, pattern_read}
 use Rattle.bodies.specs.StatementRecords.{part_length}
 use Rattle.bodies.specs.StatementReaders.{by_kind, statement_record, records_beside, behind_statement}
-use Rattle.records.specs.declared.kinds.Pattern.{Pattern}
 use Rattle.records.specs.declared.kinds.Pattern.TheVariants.{Everyone, OfClass}
 use Rattle.bodies.specs.declared.statements.StatementRecord.{StatementRecord}
 use Rattle.bodies.specs.declared.statements.StatementRecord.TheVariants.{Do, MoveTo, If, Unknown}
@@ -32,20 +28,6 @@ pattern_told p = go (eqb p 255)
     go true = refl
     go false = refl
 
--- and there is no other
-pub pattern_same : (c d : Pattern) → pattern_as c ≡ pattern_as d → c ≡ d
-pattern_same Everyone Everyone e = refl
-pattern_same Everyone (OfClass j) e = absurd (clash (cc))
-pattern_same (OfClass i) Everyone e = absurd (clash (cc))
-pattern_same (OfClass i) (OfClass j) e = let z : i.0 ≡ j.0 = cc in λ k. OfClass (record { 0 = z k })
-
--- a kind of 3 or more is unknown
-kind_unknown : (part : List ℕ) (k : ℕ) → (k ≡ 0 → ⊥) → (k ≡ 1 → ⊥) → (k ≡ 2 → ⊥) → get_or (by_kind part) k Unknown ≡ Unknown
-kind_unknown part zero a b c = absurd (a refl)
-kind_unknown part (suc zero) a b c = absurd (b refl)
-kind_unknown part (suc (suc zero)) a b c = absurd (c refl)
-kind_unknown part (suc (suc (suc k))) a b c = refl
-
 -- what the record at the front of a list tells of its bytes
 abbrev pub Told : List ℕ → StatementRecord → Type 0
 Told part (Do m c) = (8 ≤ length part) × (byte part 0 ≡ 0) × (m ≡ byte part 1) × (pattern_as c ≡ pattern_of (byte part 2))
@@ -54,27 +36,10 @@ Told part (If b) = (8 ≤ length part) × (byte part 0 ≡ 2) × (b.guard ≡ u1
 Told part Unknown = 8 ≤ length part → 3 ≤ byte part 0
 
 module _ (part : List ℕ) where
-  -- the ways out of `statement_record`
+  -- where there is none
   pub record_none : length part < 8 → Unknown ≡ statement_record part
   unfolding statement_record
   record_none l = rw (lt-ltb (length part) 8 l)
-
-  module _ (l : 8 ≤ length part) (k : ℕ) (e : k ≡ byte part 0) where
-    pub record_do : (m : ℕ) (c : Pattern) → k ≡ 0 → m ≡ byte part 1 → pattern_as c ≡ pattern_of (byte part 2) → Do m c ≡ statement_record part
-    unfolding statement_record
-    record_do m c z em ec = rw (le-ltb (length part) 8 l, sym e ∙ z, em, pattern_same c (pattern_read (byte part 2)) (ec ∙ sym (pattern_told (byte part 2))))
-
-    pub record_move : (t : OwnState) → k ≡ 1 → t.0 ≡ byte part 1 → MoveTo t ≡ statement_record part
-    unfolding statement_record
-    record_move t z et = rw (le-ltb (length part) 8 l, sym e ∙ z) (λ i. MoveTo (record { 0 = et i }))
-
-    pub record_if : (g x y : ℕ) → k ≡ 2 → g ≡ u16 part 2 → x ≡ u16 part 4 → y ≡ u16 part 6 → If (record { guard = g; thens = x; elses = y }) ≡ statement_record part
-    unfolding statement_record
-    record_if g x y z eg ex ey = rw (le-ltb (length part) 8 l, sym e ∙ z, eg, ex, ey)
-
-    pub record_unknown : (k ≡ 0 → ⊥) → (k ≡ 1 → ⊥) → (k ≡ 2 → ⊥) → Unknown ≡ statement_record part
-    unfolding statement_record
-    record_unknown a b c = rw (le-ltb (length part) 8 l) (sym (kind_unknown part (byte part 0) (λ z. a (e ∙ z)) (λ z. b (e ∙ z)) (λ z. c (e ∙ z))))
 
   -- what it tells
   pub told : (r : StatementRecord) → r ≡ statement_record part → Told part r
@@ -104,19 +69,3 @@ behind_falls r part p l e = omega (arith, ap length e, length-drop ((1 + records
 
 pub parts_fall : (i n : ℕ) (part p : List ℕ) → 8 ≤ length part → p ≡ records_from (1 + i) n part → length p < length part
 parts_fall i n part p l e = omega (arith, ap length e, length-take (n * 8) (drop ((1 + i) * 8) part), length-drop ((1 + i) * 8) part)
-
--- where records are cut, the cut is inside or there is nothing left to cut
-pub first_inside : (b : List ℕ) (n : ℕ) → take (n * 8 - 0) b ≡ take (n * 8) b
-first_inside b n = ap (λ (k : ℕ). take k b) (let z : n * 8 - 0 ≡ n * 8 = omega arith in z)
-
-pub first_all : (b : List ℕ) (n : ℕ) → length b / 8 < n → b ≡ take (n * 8) b
-first_all b n l = sym (take_all (n * 8) b (omega arith))
-
-pub behind_inside : (b : List ℕ) (n : ℕ) → take (length b - n * 8) (drop (n * 8) b) ≡ drop (n * 8) b
-behind_inside b n = take_all (length b - n * 8) (drop (n * 8) b) (omega (arith, length-drop (n * 8) b))
-
-pub behind_nothing : (b : List ℕ) (n : ℕ) → length b / 8 < n → take (length b - length b) (drop (length b) b) ≡ drop (n * 8) b
-behind_nothing b n l =
-    let z : length b - length b ≡ 0 = omega arith in
-    let h : length b ≤ n * 8 = omega arith in
-    rw (z, drop_of_length-le b h)

@@ -15,18 +15,11 @@ pub fn classes_ok(classes: &[u8]) -> bool
     requires { length classes.now ≤ 1024 }
     ensures { result ≡ classes_right classes.now }
 {
-    let n = classes.len() / 4;
-    let mut i = 0;
-    while i < n {
-        if name_set(classes, i) == 0 {
-            return false;
-        }
-        i = i + 1;
-    }
-    true
+    (0..classes.len() / 4).all(|i| name_set(classes, i) != 0)
 }
 
 // 4: the counts of the states sum to the clauses.
+#[tactic(auto, unfolding(crate::specs::BodyRules::counts_right))]
 pub fn counts_ok(states: &[u8], whens: &[u8], actions: &[u8]) -> bool
     requires { length states.now ≤ 1024 }
     ensures { result ≡ counts_right states.now (in_fours whens.now) (in_fours actions.now) }
@@ -42,15 +35,7 @@ pub fn records_ok(classes: &[u8], guards: &[u8]) -> bool
     ensures { result ≡ records_right (in_fours classes.now) guards.now }
 {
     let class_count = classes.len() / 4;
-    let n = guards.len() / 8;
-    let mut i = 0;
-    while i < n {
-        if !record_ok(class_count, record_at(guards, i)) {
-            return false;
-        }
-        i = i + 1;
-    }
-    true
+    (0..guards.len() / 8).all(|i| record_ok(class_count, record_at(guards, i)))
 }
 
 // 6: every when clause's guard reads.
@@ -58,15 +43,7 @@ pub fn guards_ok(guards: &[u8], whens: &[u8]) -> bool
     requires { length whens.now ≤ 1024 }
     ensures { result ≡ guards_right guards.now whens.now }
 {
-    let n = whens.len() / 4;
-    let mut w = 0;
-    while w < n {
-        if !guard_ok(guards, guard_place(whens, w)) {
-            return false;
-        }
-        w = w + 1;
-    }
-    true
+    (0..whens.len() / 4).all(|w| guard_ok(guards, guard_place(whens, w)))
 }
 
 // MOVE_TO an own state, DO one of this state's action clauses, STAY with 0.
@@ -91,15 +68,12 @@ fn state_targets_ok(states: &[u8], whens: &[u8], q: usize) -> bool
     let own_states = states.len() / 4;
     let own_actions = count_at(states, ACTION_CLAUSES, q);
     let first = count_sum(states, WHEN_CLAUSES, q);
-    let n = count_at(states, WHEN_CLAUSES, q);
-    let mut i = 0;
-    while i < n {
-        if !target_ok(own_states, own_actions, whens, first + i) {
-            return false;
-        }
-        i = i + 1;
-    }
-    true
+    (0..count_at(states, WHEN_CLAUSES, q)).all(|i| target_ok(
+        own_states,
+        own_actions,
+        whens,
+        first + i,
+    ))
 }
 
 // 7: every referrer and target is right.
@@ -107,15 +81,7 @@ pub fn targets_ok(states: &[u8], whens: &[u8]) -> bool
     requires { length states.now ≤ 1024 }
     ensures { result ≡ targets_right states.now whens.now }
 {
-    let n = states.len() / 4;
-    let mut q = 0;
-    while q < n {
-        if !state_targets_ok(states, whens, q) {
-            return false;
-        }
-        q = q + 1;
-    }
-    true
+    (0..states.len() / 4).all(|q| state_targets_ok(states, whens, q))
 }
 
 // An action clause's command and its zero byte.
@@ -133,15 +99,7 @@ fn each_action_ok(actions: &[u8]) -> bool
     requires { length actions.now ≤ 1024 }
     ensures { result ≡ actions_plain actions.now }
 {
-    let n = actions.len() / 4;
-    let mut a = 0;
-    while a < n {
-        if !action_ok(actions, a) {
-            return false;
-        }
-        a = a + 1;
-    }
-    true
+    (0..actions.len() / 4).all(|a| action_ok(actions, a))
 }
 
 // The command of action clause first + i is that of none from the first on.
@@ -150,14 +108,7 @@ fn command_is_new(actions: &[u8], first: usize, i: usize) -> bool
     ensures { result ≡ new_command actions.now first i }
 {
     let command = action_command(actions, first + i);
-    let mut j = 0;
-    while j < i {
-        if action_command(actions, first + j) == command {
-            return false;
-        }
-        j = j + 1;
-    }
-    true
+    (0..i).all(|j| action_command(actions, first + j) != command)
 }
 
 // No command stands twice in state q.
@@ -166,15 +117,7 @@ fn none_twice(states: &[u8], actions: &[u8], q: usize) -> bool
     ensures { result ≡ none_twice states.now actions.now q }
 {
     let first = count_sum(states, ACTION_CLAUSES, q);
-    let n = count_at(states, ACTION_CLAUSES, q);
-    let mut i = 0;
-    while i < n {
-        if !command_is_new(actions, first, i) {
-            return false;
-        }
-        i = i + 1;
-    }
-    true
+    (0..count_at(states, ACTION_CLAUSES, q)).all(|i| command_is_new(actions, first, i))
 }
 
 // No command stands twice in any state.
@@ -182,18 +125,11 @@ fn none_twice_anywhere(states: &[u8], actions: &[u8]) -> bool
     requires { length states.now ≤ 1024 }
     ensures { result ≡ commands_apart states.now actions.now }
 {
-    let n = states.len() / 4;
-    let mut q = 0;
-    while q < n {
-        if !none_twice(states, actions, q) {
-            return false;
-        }
-        q = q + 1;
-    }
-    true
+    (0..states.len() / 4).all(|q| none_twice(states, actions, q))
 }
 
 // 8: every action clause is right, and the statement counts sum to the statements.
+#[tactic(auto, unfolding(crate::specs::BodyRules::actions_right))]
 pub fn actions_ok(states: &[u8], actions: &[u8], statements: &[u8]) -> bool
     requires { (length states.now ≤ 1024) × (length actions.now ≤ 1024) }
     ensures { result ≡ actions_right states.now actions.now (in_eights statements.now) }
@@ -217,18 +153,12 @@ pub fn statements_ok(
 {
     let class_count = classes.len() / 4;
     let state_count = states.len() / 4;
-    let n = actions.len() / 4;
-    let mut a = 0;
-    while a < n {
-        if !body_ok(
+    (0..actions.len() / 4).all(|a| {
+        body_ok(
             class_count,
             state_count,
             guards,
             statements_of(actions, statements, a),
-        ) {
-            return false;
-        }
-        a = a + 1;
-    }
-    true
+        )
+    })
 }

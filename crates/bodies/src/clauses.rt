@@ -34,10 +34,8 @@ pub fn count_sum(b: &[u8], offset: usize, n: usize) -> usize
     ensures { (result ≡ count_sum b.now offset n) × (result ≤ n * 65536) }
 {
     let mut sum = 0;
-    let mut i = 0;
-    while i < n {
-        sum = sum + count_at(b, offset, i);
-        i = i + 1;
+    for i in 0..n {
+        sum += count_at(b, offset, i);
     }
     sum
 }
@@ -51,6 +49,7 @@ pub fn guard_place(whens: &[u8], w: usize) -> usize
 }
 
 // When clause w's referrer with its target, in the kind of number that it is.
+#[tactic(auto, unfolding(crate::specs::Clauses::referrer_of))]
 pub fn referrer_at(whens: &[u8], w: usize) -> Referrer
     requires { w < 4294967296 }
     ensures { referrer_as result ≡ referrer_of (referrer_number whens.now w) (target whens.now w) }

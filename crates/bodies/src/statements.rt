@@ -38,6 +38,7 @@ fn short_at(b: &[u8], at: usize) -> u16
 }
 
 // The record at the front of a list of statements; Unknown where there is none.
+#[tactic(auto, unfolding(crate::specs::StatementReaders::statement_record))]
 pub fn statement_record(part: &[u8]) -> StatementRecord
     ensures { result ≡ statement_record part.now }
 {

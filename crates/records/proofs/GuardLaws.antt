@@ -8,16 +8,14 @@ use mathlib.Core.Bool.{Bool, true, false}
 use mathlib.Core.Logic.{◌⊎◌, inl, inr}
 use mathlib.Core.List.{List}
 use denote.Enum.Declared.{tag_of}
-use lib.Dec.{leb}
 use lib.ListN.{length}
-use borrow.Author.Tests.{lt-ltb, le-ltb, le-leb, lt-leb}
+use borrow.Author.Tests.{lt-ltb, le-ltb}
 use Rattle.std.specs.Prelude.{Some, None}
 use Rattle.std.specs.Option.{is_some}
-use Rattle.model.specs.Words.{choose}
-use Rattle.model.specs.Tree.{Pattern, Kind, Guard, both, either}
+use Rattle.model.specs.Tree.{Guard, both, either}
 use Rattle.model.proofs.Words.{clash, true_not_false, lt_or_le}
-use Rattle.records.specs.Bytes.{byte, u32, record_at}
-use Rattle.records.specs.GuardRecords.{pattern_of, atom_right, operator_right, record_right, Read, got, broken, by_read, is_read, Operator, two, one, Record, leaf, operator, unknown, atom_kind, operator_of, record_of, guard_record, joined, shaped, guard_with, guard_at, operands, guard_from}
+use Rattle.records.specs.Bytes.{record_at}
+use Rattle.records.specs.GuardRecords.{Read, got, broken, by_read, is_read, Operator, two, one, Record, leaf, operator, unknown, record_of, guard_record, joined, shaped, guard_with, guard_at, operands, guard_from}
 use Rattle.records.specs.Records.{operator_as}
 use Rattle.records.specs.Ends.{end_of}
 use Rattle.records.specs.declared.guards.Operator.{Operator as ReadOperator}
@@ -29,36 +27,6 @@ pub read_case {ℓ κ} : {A : Type ℓ} (P : A → Type κ) (r : Read) (x : Unit
     → (r ≡ broken → P (x tt)) → ((g : Guard) (e : ℕ) → r ≡ got g e → P (f g e)) → P (by_read r x f)
 read_case P broken x f p q = p refl
 read_case P (got g e) x f p q = q g e refl
-
--- what a record of kind k is
-module _ (r : List ℕ) (k : ℕ) (e : k ≡ byte r 0) where
-  pub record_atom : k ≤ 3 → {kind : Kind} {p : Pattern} {set : ℕ} → kind ≡ atom_kind k → p ≡ pattern_of (byte r 1) → set ≡ u32 r 4 → leaf kind p set ≡ record_of r
-  unfolding record_of
-  record_atom h a b c = rw (a, b, c, ← e, le-leb k 3 h)
-
-  pub record_operator : 3 < k → k ≤ 6 → {op : Operator} → op ≡ operator_of k → operator op ≡ record_of r
-  unfolding record_of
-  record_operator l h a = rw (a, ← e, lt-leb k 3 l, le-leb k 6 h)
-
-  pub record_unknown : 6 < k → unknown ≡ record_of r
-  unfolding record_of
-  record_unknown l = let l3 : 3 < k = omega arith in rw (← e, lt-leb k 3 l3, lt-leb k 6 l)
-
--- the layout that a record must keep goes by what it is
-abbrev pub layout_of : ℕ → List ℕ → Record → Bool
-layout_of K r (leaf kind p set) = atom_right K r
-layout_of K r (operator op) = operator_right r
-layout_of K r unknown = false
-
-pub layout : (K : ℕ) (r : List ℕ) {x : Record} → x ≡ record_of r → layout_of K r x ≡ record_right K r
-unfolding record_of
-layout K r e = ap (layout_of K r) e ∙ go (leb (byte r 0) 3) (leb (byte r 0) 6)
-  where
-    go : (a b : Bool) → layout_of K r (choose a (λ _. leaf (atom_kind (byte r 0)) (pattern_of (byte r 1)) (u32 r 4)) (λ _. choose b (λ _. operator (operator_of (byte r 0))) (λ _. unknown)))
-        ≡ choose a (λ _. atom_right K r) (λ _. choose b (λ _. operator_right r) (λ _. false))
-    go true b = refl
-    go false true = refl
-    go false false = refl
 
 -- a guard record stands past the end, or is what its bytes say
 pub record_past : (gs : List ℕ) (i : ℕ) → length gs / 8 ≤ i → unknown ≡ guard_record gs i

@@ -56,6 +56,7 @@ fn operator_of(kind: usize) -> Operator
 }
 
 // What the record at the front is: one match over its kind.
+#[tactic(auto, unfolding(crate::specs::GuardRecords::record_of))]
 fn record_of(r: &[u8]) -> GuardRecord
     ensures { record_as result ≡ record_of r.now }
 {
@@ -68,6 +69,7 @@ fn record_of(r: &[u8]) -> GuardRecord
 }
 
 // What guard record i is; unknown past the end.
+#[tactic(auto, unfolding(crate::specs::GuardRecords::guard_record))]
 pub fn guard_record(g: &[u8], i: usize) -> GuardRecord
     ensures { record_as result ≡ guard_record g.now i }
 {
@@ -105,6 +107,7 @@ fn operator_ok(r: &[u8]) -> bool
 }
 
 // A record keeps its layout.
+#[tactic(auto, unfolding(crate::specs::GuardRecords::record_of))]
 pub fn record_ok(classes: usize, r: &[u8]) -> bool
     ensures { result ≡ record_right classes r.now }
 {

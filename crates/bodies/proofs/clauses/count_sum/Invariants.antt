@@ -1,12 +1,9 @@
 -- The invariant: the sum is that of the counts of the first i records. Each turn adds one count.
 -- Assumes nothing.
-use Prim.Native.Nat.{◌≤◌, ◌*◌, ◌-◌}
+use Prim.Native.Nat.{◌≤◌, ◌*◌}
 use mathlib.Core.Path.{◌≡◌}
 use Rattle.bodies.specs.Clauses.{count_sum}
 use Rattle.bodies.proofs.clauses.count_sum.Given as goal
 
 abbrev pub invariant-loop-i : goal.invariant-loop-i
-invariant-loop-i l = (l.i ≤ l.n) × (l.sum ≡ count_sum l.b l.offset l.i) × (l.sum ≤ l.i * 65536)
-
-abbrev pub decreases-loop-i : goal.decreases-loop-i
-decreases-loop-i l = l.n - l.i
+invariant-loop-i l = (l.sum ≡ count_sum l.b l.offset l.i) × (l.sum ≤ l.i * 65536)
