@@ -11,7 +11,7 @@ use classfile::fields::{FILE, Field, next_field};
 use kinds::is_same;
 use lists::{class_set, record_count};
 use model::ChildName;
-use records::guards::{End, GuardRecord, guard_end, guard_record};
+use records::guards::{GuardRecord, guard_end, guard_record};
 use records::sets::has_name;
 use records::words::{in_eights, in_fours, record_at};
 use sheet::judging::Places;
@@ -81,8 +81,8 @@ fn records_gap(g: &[u8], from: usize, to: usize, names: usize) -> Gap {
 fn guard_gap(g: &[u8], place: usize, names: usize) -> Gap {
     let end = guard_end(g, place, 16);
     match end {
-        End::At(stop) => records_gap(g, place, stop, names),
-        End::Broken => Gap::Nothing,
+        Some(stop) => records_gap(g, place, stop, names),
+        None => Gap::Nothing,
     }
 }
 
