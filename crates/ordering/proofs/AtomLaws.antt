@@ -17,7 +17,7 @@ use Rattle.naming.specs.NameLists.{Lists, child_names, class_names, number_in, l
 use Rattle.naming.specs.Naming.{with_bit, names_set, set_of, pattern_of, kind_of}
 use Rattle.naming.specs.Known.{names_known, set_known, kin_known}
 use Rattle.encoding.specs.Encoding.{kind_number, pattern_number}
-use Rattle.ordering.specs.declared.Ahead.TheVariants.{Atom}
+use Rattle.std.specs.Prelude.{Some}
 use Rattle.ordering.specs.Ordering.{Way, pattern_in, with_name, braced, set_ahead, side_ahead, atom_ahead, mark_of, with_atom, turn, walked}
 
 -- the words of kins and sets are passed over
@@ -96,7 +96,7 @@ module _ (l : Lists) (few : length (child_names l) ≤ 32) (fewer : length (clas
   base G.all = 2
 
   side_read : (q : Quantifier) (s : Side) (p : ℕ) (rest : List Token)
-      → side_ahead names (base q) p (fixed (side_word s) ∷ rest) ≡ Atom (kind_number (kind_of q s)) p (set_ahead names rest)
+      → side_ahead names (base q) p (fixed (side_word s) ∷ rest) ≡ Some (kind_number (kind_of q s), p, set_ahead names rest)
   unfolding side_ahead side_word kind_of kind_number K.kind_of
   side_read G.any G.inside p rest = refl
   side_read G.any G.outside p rest = refl
@@ -111,8 +111,8 @@ module _ (l : Lists) (few : length (child_names l) ≤ 32) (fewer : length (clas
 
   pub atom_read : (q : Quantifier) (k : Kin) (s : Side) (t : Set) (rest : List Token) → (kin_known l k && set_known l t) ≡ true
       → atom_ahead names classes (base q) (kin_words k (fixed (side_word s) ∷ set_words t rest))
-      ≡ Atom (kind_number (kind_of q s)) (pattern_number (pattern_of l k)) (set_of names t)
+      ≡ Some (kind_number (kind_of q s), pattern_number (pattern_of l k), set_of names t)
   atom_read q k s t rest e =
       kin_read (base q) k (fixed (side_word s) ∷ set_words t rest) (and_left (kin_known l k) (set_known l t) e)
       ∙ side_read q s (pattern_number (pattern_of l k)) (set_words t rest)
-      ∙ ap (Atom (kind_number (kind_of q s)) (pattern_number (pattern_of l k))) (set_read t rest (and_right (kin_known l k) (set_known l t) e))
+      ∙ ap (λ (n : ℕ). Some (kind_number (kind_of q s), pattern_number (pattern_of l k), n)) (set_read t rest (and_right (kin_known l k) (set_known l t) e))

@@ -20,8 +20,7 @@ use Rattle.naming.specs.Naming.{guard_of, conj_of, operand_of, pattern_of, kind_
 use Rattle.naming.specs.Known.{kin_known, set_known, guard_known, conj_known, operand_known}
 use Rattle.encoding.specs.Records.{Eight}
 use Rattle.encoding.specs.Encoding.{kind_number, pattern_number, guard_records, operator_record}
-use Rattle.ordering.specs.declared.Ahead.{Ahead}
-use Rattle.ordering.specs.Ordering.{Way, key, or_rank, and_rank, run, inserted, put, atom_record, mark_of, with_atom, with_operator, turn, walked}
+use Rattle.ordering.specs.Ordering.{Ahead, Way, key, or_rank, and_rank, run, inserted, put, atom_record, mark_of, with_atom, with_operator, turn, walked}
 use Rattle.ordering.proofs.AtomLaws.{kin_passed, side_passed, set_passed, quantified, atom_read}
 
 -- a record in front of the last part

@@ -17,9 +17,8 @@ use Rattle.naming.specs.Naming.{in_order, all_states, own_names, action_names, g
 use Rattle.naming.specs.Known.{among, kin_known, guard_known, part_known, referrer_known, when_known, action_known, state_known, text_known}
 use Rattle.encoding.specs.Records.{Eight}
 use Rattle.encoding.specs.Encoding.{guard_records, part_guards, gathered, when_guards, action_guards, state_guards, all_guards}
-use Rattle.ordering.specs.declared.Ahead.{Ahead}
-use Rattle.ordering.specs.declared.Ahead.TheVariants.{Nothing}
-use Rattle.ordering.specs.Ordering.{Way, run, pattern_in, side_ahead, atom_ahead, mark_of, with_atom, turn, walked, in_prefix_order}
+use Rattle.std.specs.Prelude.{None}
+use Rattle.ordering.specs.Ordering.{Ahead, Way, run, pattern_in, side_ahead, atom_ahead, mark_of, with_atom, turn, walked, in_prefix_order}
 use Rattle.ordering.proofs.AtomLaws.{kin_passed}
 use Rattle.ordering.proofs.Operands.{way, guard_keys, guard_walk}
 
@@ -37,7 +36,7 @@ every_behind {A} f (xs then x) ys e = and_right (f x) (every f ys) (every_behind
 module _ (names classes : List (List ℕ)) where
   -- the words do not begin with in_state or not_in_state, so that a kin before them is none of an atom
   pub Apart : List Token → Type 0
-  Apart rest = (k p : ℕ) → side_ahead names k p rest ≡ Nothing
+  Apart rest = (k p : ℕ) → side_ahead names k p rest ≡ None
 
   -- words between which guards stand: they add these records
   pub record Adds (words : List Token → List Token) (xs : List Eight) : Type 0 where
@@ -81,7 +80,7 @@ module _ (names classes : List (List ℕ)) where
   referrer_passed G.stay keys rs rest = refl
   referrer_passed (G.stay_in n) keys rs rest = refl
 
-  kin_apart : (k : Kin) (rest : List Token) → Apart rest → atom_ahead names classes 2 (kin_words k rest) ≡ Nothing
+  kin_apart : (k : Kin) (rest : List Token) → Apart rest → atom_ahead names classes 2 (kin_words k rest) ≡ None
   unfolding kin_words atom_ahead Apart
   kin_apart G.children rest a = a 2 (pattern_in classes (fixed children_word))
   kin_apart (G.kin n) rest a = a 2 (pattern_in classes (name n))

@@ -1,7 +1,7 @@
 -- The guard records of a text, put in the sheet's order on one walk over its words. An operator's record goes in front of those of its left
 -- operand, which are as many of the latest as bind at least as tightly as it does. Brackets only count.
 -- Assumes nothing.
-use Rattle.std.specs.Prelude.{ℕ, suc, ◌+◌, ◌-◌, ◌*◌, Bool, ◌&&◌, ◌||◌, List, [], ◌∷◌, ◌++◌, eqb, leb, ltb, length, take, drop}
+use Rattle.std.specs.Prelude.{ℕ, suc, ◌+◌, ◌-◌, ◌*◌, Bool, ◌&&◌, ◌||◌, List, [], ◌∷◌, ◌++◌, eqb, leb, ltb, length, take, drop, Option, Some, None}
 use Rattle.model.specs.Words.{choose, has}
 use Rattle.grammar.specs.Grammar.{Token, fixed, name, Name}
 use Rattle.grammar.specs.Kinds.{kind_of}
@@ -11,8 +11,10 @@ use Rattle.encoding.specs.Records.{Eight, four, eight, number}
 use Rattle.encoding.specs.Encoding.{operator_record}
 use Rattle.ordering.specs.declared.Mark.{Mark}
 use Rattle.ordering.specs.declared.Mark.TheVariants.{Any, All, Edge, And, Or, Not, Open, Close, Other}
-use Rattle.ordering.specs.declared.Ahead.{Ahead}
-use Rattle.ordering.specs.declared.Ahead.TheVariants.{Atom, Nothing}
+
+-- what stands behind a quantifier: an atom's kind, pattern and name set, or none, where a do sends to children
+abbrev pub Ahead : Type 0
+Ahead = Option (ℕ × ℕ × ℕ)
 
 -- what is known on the way: how many brackets are open, the keys of the guard that is read, the latest first, and all records so far
 pub record Way : Type 0 where
@@ -76,13 +78,13 @@ module _ (names : List (List ℕ)) where
 
   -- behind a kin of that pattern: in_state or not_in_state, and a set
   unfoldable pub side_ahead : ℕ → ℕ → List Token → Ahead
-  side_ahead k p [] = Nothing
+  side_ahead k p [] = None
   side_ahead k p (t ∷ rest) =
-      choose (eqb (kind_of t) 18) (λ _. Atom k p (set_ahead rest)) (λ _. choose (eqb (kind_of t) 19) (λ _. Atom (k + 1) p (set_ahead rest)) (λ _. Nothing))
+      choose (eqb (kind_of t) 18) (λ _. Some (k, p, set_ahead rest)) (λ _. choose (eqb (kind_of t) 19) (λ _. Some (k + 1, p, set_ahead rest)) (λ _. None))
 
 -- behind a quantifier: a kin, and what stands behind it
 unfoldable pub atom_ahead : List (List ℕ) → List (List ℕ) → ℕ → List Token → Ahead
-atom_ahead names classes k [] = Nothing
+atom_ahead names classes k [] = None
 atom_ahead names classes k (t ∷ rest) = side_ahead names k (pattern_in classes t) rest
 
 -- what a word is, by its kind: $ANY$, $ALL$; when, move_to, do, stay_in_state, if, then; and, or, not; brackets
@@ -99,8 +101,8 @@ mark_of k =
 
 -- an atom goes behind all
 abbrev pub with_atom : Ahead → Way → Way
-with_atom (Atom k p s) w = put 0 0 (atom_record k p s) w
-with_atom Nothing w = w
+with_atom (Some (k, p, s)) w = put 0 0 (atom_record k p s) w
+with_atom None w = w
 
 -- an operator on two goes in front of its left operand
 abbrev pub with_operator : ℕ → ℕ → Way → Way

@@ -4,6 +4,8 @@
 ghost use Rattle.std.specs.Prelude.{◌≡◌};
 ghost use Rattle.ordering.specs.Ordering.{mark_of};
 
+use kinds::{ALL, AND, ANY, CLOSE, NOT, OPEN, OR, THEN, WHEN};
+
 // What a word is to a guard: a quantifier; a word at which no guard is open; an operator; a bracket; or nothing.
 #[derive(Clone, Copy)]
 pub enum Mark {
@@ -18,40 +20,19 @@ pub enum Mark {
     Other,
 }
 
-// What stands behind a quantifier: an atom's kind, pattern and name set, or none, where a do sends to children.
-#[derive(Clone, Copy)]
-pub enum Ahead {
-    Atom(u8, u8, u32),
-    Nothing,
-}
-
 // What a word of a kind is.
 pub fn mark_of(kind: u8) -> Mark
     ensures { result ≡ mark_of kind }
 {
-    if kind == 5 {
-        return Mark::Any;
+    match kind {
+        ANY => Mark::Any,
+        ALL => Mark::All,
+        WHEN..=THEN => Mark::Edge,
+        AND => Mark::And,
+        OR => Mark::Or,
+        NOT => Mark::Not,
+        OPEN => Mark::Open,
+        CLOSE => Mark::Close,
+        _ => Mark::Other,
     }
-    if kind == 6 {
-        return Mark::All;
-    }
-    if (7 <= kind) & (kind <= 12) {
-        return Mark::Edge;
-    }
-    if kind == 15 {
-        return Mark::And;
-    }
-    if kind == 16 {
-        return Mark::Or;
-    }
-    if kind == 17 {
-        return Mark::Not;
-    }
-    if kind == 21 {
-        return Mark::Open;
-    }
-    if kind == 22 {
-        return Mark::Close;
-    }
-    Mark::Other
 }

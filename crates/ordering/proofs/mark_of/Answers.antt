@@ -1,45 +1,46 @@
 -- `ordering::mark_of` meets its contract.
 -- Assumes nothing.
+use native.Mathlib.Omega.{arith}
 use mathlib.Core.Path.{sym, ap}
 use Rattle.ordering.specs.Ordering.{mark_of}
 use Rattle.ordering.proofs.MarkLaws.{mark_edge, mark_other}
 use Rattle.ordering.proofs.mark_of.Goals as goal
 
-pub returns-then-kind-eq5 : goal.returns-then-kind-eq5
+pub returns-in-5 : goal.returns-in-5
 unfolding mark_of
-returns-then-kind-eq5 c = ap mark_of (sym c.if-kind-eq5.true)
+returns-in-5 c = ap mark_of (sym c.in-5.is)
 
-pub returns-then-kind-eq6 : goal.returns-then-kind-eq6
+pub returns-in-6 : goal.returns-in-6
 unfolding mark_of
-returns-then-kind-eq6 c = ap mark_of (sym c.if-kind-eq6.true)
+returns-in-6 c = ap mark_of (sym c.in-6.is)
 
-pub returns-then-kind : goal.returns-then-kind
-returns-then-kind c = mark_edge _ c.if-kind-eq5.false c.if-kind-eq6.false c.if-kind.true
+pub returns-in-7-to-12 : goal.returns-in-7-to-12
+returns-in-7-to-12 c = mark_edge _ (omega arith) (omega arith)
 
-pub returns-then-kind-eq15 : goal.returns-then-kind-eq15
+pub returns-in-15 : goal.returns-in-15
 unfolding mark_of
-returns-then-kind-eq15 c = ap mark_of (sym c.if-kind-eq15.true)
+returns-in-15 c = ap mark_of (sym c.in-15.is)
 
-pub returns-then-kind-eq16 : goal.returns-then-kind-eq16
+pub returns-in-16 : goal.returns-in-16
 unfolding mark_of
-returns-then-kind-eq16 c = ap mark_of (sym c.if-kind-eq16.true)
+returns-in-16 c = ap mark_of (sym c.in-16.is)
 
-pub returns-then-kind-eq17 : goal.returns-then-kind-eq17
+pub returns-in-17 : goal.returns-in-17
 unfolding mark_of
-returns-then-kind-eq17 c = ap mark_of (sym c.if-kind-eq17.true)
+returns-in-17 c = ap mark_of (sym c.in-17.is)
 
-pub returns-then-kind-eq21 : goal.returns-then-kind-eq21
+pub returns-in-21 : goal.returns-in-21
 unfolding mark_of
-returns-then-kind-eq21 c = ap mark_of (sym c.if-kind-eq21.true)
+returns-in-21 c = ap mark_of (sym c.in-21.is)
 
-pub returns-then-kind-eq22 : goal.returns-then-kind-eq22
+pub returns-in-22 : goal.returns-in-22
 unfolding mark_of
-returns-then-kind-eq22 c = ap mark_of (sym c.if-kind-eq22.true)
+returns-in-22 c = ap mark_of (sym c.in-22.is)
 
-pub returns : goal.returns
-returns c =
-    mark_other _ c.if-kind-eq5.false c.if-kind-eq6.false c.if-kind.false c.if-kind-eq15.false
-    c.if-kind-eq16.false
-    c.if-kind-eq17.false
-    c.if-kind-eq21.false
-    c.if-kind-eq22.false
+pub returns-in_default : goal.returns-in_default
+returns-in_default c =
+    mark_other _ (λ e. omega arith) (λ e. omega arith) (λ a b. omega arith) (λ e. omega arith) (λ e. omega arith) (λ e. omega arith) (λ e. omega arith) (λ e. omega arith)
+
+pub returns-in_default-2 : goal.returns-in_default-2
+returns-in_default-2 c =
+    mark_other _ (λ e. omega arith) (λ e. omega arith) (λ a b. omega arith) (λ e. omega arith) (λ e. omega arith) (λ e. omega arith) (λ e. omega arith) (λ e. omega arith)
