@@ -24,10 +24,8 @@ use Rattle.naming.specs.Naming.{with_bit}
 use Rattle.words.specs.Scanning.{tokens_from, stretch, behind, Next}
 use Rattle.words.proofs.Turns.{turn, last, kind_as, a_name, a_fixed}
 use Rattle.lists.specs.Lent.{found_from}
-use Rattle.lists.specs.declared.Found.TheVariants.{At, Nowhere}
-use Rattle.ordering.specs.declared.Ahead.{Ahead}
-use Rattle.ordering.specs.declared.Ahead.TheVariants.{Atom, Nothing}
-use Rattle.ordering.specs.Ordering.{pattern_in, with_name, braced, set_ahead, side_ahead, atom_ahead}
+use Rattle.std.specs.Prelude.{Some, None}
+use Rattle.ordering.specs.Ordering.{Ahead, pattern_in, with_name, braced, set_ahead, side_ahead, atom_ahead}
 
 -- the number of a name
 position_most : (rs : List (List ℕ)) (w : List ℕ) → position rs w ≤ length rs
@@ -43,22 +41,22 @@ count_records : (size : ℕ) (b : List ℕ) → length (records_in size b) ≡ l
 unfolding records_in
 count_records size b = length_listed 0 (length b / size) (λ i. take 32 (drop (i * size) b))
 
-pub found_at : (rs : List (List ℕ)) (w : List ℕ) (i : ℕ) → found_from 0 rs (padded w) ≡ At i → i ≡ number_in rs w
+pub found_at : (rs : List (List ℕ)) (w : List ℕ) (i : ℕ) → found_from 0 rs (padded w) ≡ Some i → i ≡ number_in rs w
 unfolding found_from number_in
 found_at rs w i = go (ltb (position rs (padded w)) (length rs))
   where
-    go : (b : Bool) → choose b (λ _. At (0 + position rs (padded w))) (λ _. Nowhere) ≡ At i → i ≡ position rs (padded w)
+    go : (b : Bool) → choose b (λ _. Some (0 + position rs (padded w))) (λ _. None) ≡ Some i → i ≡ position rs (padded w)
     go true e = let z : 0 + position rs (padded w) ≡ i = cc in omega arith
     go false e = absurd (clash (cc))
 
-pub found_nowhere : (size : ℕ) (b w : List ℕ) (n : ℕ) → found_from 0 (records_in size b) (padded w) ≡ Nowhere → n ≡ length b / size → n ≡ number_in (records_in size b) w
+pub found_nowhere : (size : ℕ) (b w : List ℕ) (n : ℕ) → found_from 0 (records_in size b) (padded w) ≡ None → n ≡ length b / size → n ≡ number_in (records_in size b) w
 unfolding found_from number_in
 found_nowhere size b w n e h = go (ltb (position rs (padded w)) (length rs)) refl e
   where
     rs : List (List ℕ)
     rs = records_in size b
 
-    go : (t : Bool) → ltb (position rs (padded w)) (length rs) ≡ t → choose t (λ _. At (0 + position rs (padded w))) (λ _. Nowhere) ≡ Nowhere → n ≡ position rs (padded w)
+    go : (t : Bool) → ltb (position rs (padded w)) (length rs) ≡ t → choose t (λ _. Some (0 + position rs (padded w))) (λ _. None) ≡ None → n ≡ position rs (padded w)
     go true f e = absurd (clash (cc))
     go false f e = omega (arith, position_most rs (padded w), ltb-false (position rs (padded w)) (length rs) f, count_records size b)
 
@@ -185,21 +183,21 @@ module _ (ns : List (List ℕ)) (text : List ℕ) (at kind start end : ℕ) (n :
 
   -- behind a kin: in_state, not_in_state, or no atom
   module _ (k p : ℕ) where
-    pub side_in : (s : ℕ) → kind ≡ 18 → s ≡ set_ahead ns (tokens_from text end) → Atom k p s ≡ side_ahead ns k p (tokens_from text at)
+    pub side_in : (s : ℕ) → kind ≡ 18 → s ≡ set_ahead ns (tokens_from text end) → Some (k, p, s) ≡ side_ahead ns k p (tokens_from text at)
     unfolding side_ahead kind_of
     side_in s z e = rw (turn text at kind start end n (λ f. omega arith), a_fixed kind 17 (stretch text start end) z, e)
 
-    pub side_out : (s : ℕ) → kind ≡ 19 → s ≡ set_ahead ns (tokens_from text end) → Atom (k + 1) p s ≡ side_ahead ns k p (tokens_from text at)
+    pub side_out : (s : ℕ) → kind ≡ 19 → s ≡ set_ahead ns (tokens_from text end) → Some (k + 1, p, s) ≡ side_ahead ns k p (tokens_from text at)
     unfolding side_ahead kind_of
     side_out s z e = rw (turn text at kind start end n (λ f. omega arith), a_fixed kind 18 (stretch text start end) z, e)
 
-    pub side_none : (kind ≡ 18 → ⊥) → (kind ≡ 19 → ⊥) → Nothing ≡ side_ahead ns k p (tokens_from text at)
+    pub side_none : (kind ≡ 18 → ⊥) → (kind ≡ 19 → ⊥) → None ≡ side_ahead ns k p (tokens_from text at)
     unfolding side_ahead
     side_none a b = rw (first_token text at kind start end n, kind_as kind (stretch text start end), ne_eqb kind 18 a, ne_eqb kind 19 b)
 
   -- behind a quantifier: the end, or a kin
   module _ (cs : List (List ℕ)) (k : ℕ) where
-    pub atom_end : kind ≡ 26 → Nothing ≡ atom_ahead ns cs k (tokens_from text at)
+    pub atom_end : kind ≡ 26 → None ≡ atom_ahead ns cs k (tokens_from text at)
     unfolding atom_ahead side_ahead
     atom_end z = rw (last text at kind start end n z)
 

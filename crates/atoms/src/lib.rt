@@ -7,9 +7,9 @@ ghost use Rattle.naming.specs.NameLists.{records_in, number_in};
 ghost use Rattle.words.specs.Scanning.{tokens_from};
 ghost use Rattle.ordering.specs.Ordering.{pattern_in, with_name, braced, set_ahead, side_ahead, atom_ahead};
 
-use lists::{Found, number_in, record_count};
+use kinds::{END, IN, LEFT, NAME, NOT_IN, RIGHT};
+use lists::{number_in, record_count};
 use model::ChildName;
-use ordering::Ahead;
 use records::sets::has_name;
 use words::next_word;
 
@@ -20,8 +20,8 @@ fn number(list: &[u8], size: usize, word: &[u8]) -> usize
 {
     let found = number_in(list, size, word);
     match found {
-        Found::At(i) => i,
-        Found::Nowhere => record_count(list, size),
+        Some(i) => i,
+        None => record_count(list, size),
     }
 }
 
@@ -29,7 +29,7 @@ fn number(list: &[u8], size: usize, word: &[u8]) -> usize
 fn pattern_in(classes: &[u8], kind: u8, word: &[u8]) -> u8
     ensures { result ≡ pattern_in (records_in 36 classes.now) (token_as kind word.now) }
 {
-    if kind != 0 {
+    if kind != NAME {
         return 255;
     }
     let i = number(classes, 36, word);
@@ -61,11 +61,11 @@ fn braced(text: &[u8], at: usize, names: &[u8]) -> u32
         let kind = word.kind;
         let start = word.start;
         let end = word.end;
-        if (kind == 24) | (kind == 26) {
+        if (kind == RIGHT) | (kind == END) {
             return set;
         }
         i = end;
-        if kind == 0 {
+        if kind == NAME {
             set = with_name(names, set, &text[start..end]);
         }
     }
@@ -79,34 +79,40 @@ fn set_ahead(text: &[u8], at: usize, names: &[u8]) -> u32
     let kind = word.kind;
     let start = word.start;
     let end = word.end;
-    if kind == 0 {
+    if kind == NAME {
         return with_name(names, 0, &text[start..end]);
     }
-    if kind == 23 {
+    if kind == LEFT {
         return braced(text, end, names);
     }
     0
 }
 
-// What stands behind a kin: in_state or not_in_state and a set, or no atom.
-fn side_ahead(text: &[u8], at: usize, kind: u8, pattern: u8, names: &[u8]) -> Ahead
+// What stands behind a kin: in_state or not_in_state and a set, which make an atom of this kind and pattern, or no atom.
+fn side_ahead(text: &[u8], at: usize, kind: u8, pattern: u8, names: &[u8]) -> Option<(u8, u8, u32)>
     requires { kind < 255 }
     ensures { result ≡ side_ahead (records_in 32 names.now) kind pattern (tokens_from text.now at) }
 {
     let word = next_word(text, at);
     let side = word.kind;
     let end = word.end;
-    if side == 18 {
-        return Ahead::Atom(kind, pattern, set_ahead(text, end, names));
+    if side == IN {
+        return Some((kind, pattern, set_ahead(text, end, names)));
     }
-    if side == 19 {
-        return Ahead::Atom(kind + 1, pattern, set_ahead(text, end, names));
+    if side == NOT_IN {
+        return Some((kind + 1, pattern, set_ahead(text, end, names)));
     }
-    Ahead::Nothing
+    None
 }
 
-// What stands behind a quantifier: a kin, and what is behind it.
-pub fn atom_ahead(text: &[u8], at: usize, kind: u8, names: &[u8], classes: &[u8]) -> Ahead
+// What stands behind a quantifier: an atom's kind, pattern and name set, or no atom.
+pub fn atom_ahead(
+    text: &[u8],
+    at: usize,
+    kind: u8,
+    names: &[u8],
+    classes: &[u8],
+) -> Option<(u8, u8, u32)>
     requires { kind < 255 }
     ensures { result ≡ atom_ahead (records_in 32 names.now) (records_in 36 classes.now) kind (tokens_from text.now at) }
 {
@@ -114,8 +120,8 @@ pub fn atom_ahead(text: &[u8], at: usize, kind: u8, names: &[u8], classes: &[u8]
     let of = kin.kind;
     let start = kin.start;
     let end = kin.end;
-    if of == 26 {
-        return Ahead::Nothing;
+    if of == END {
+        return None;
     }
     let pattern = pattern_in(classes, of, &text[start..end]);
     side_ahead(text, end, kind, pattern, names)

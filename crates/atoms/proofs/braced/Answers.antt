@@ -23,14 +23,14 @@ slice_bounds-with_name-start c = let g = braced_goes [] _ _ _ _ _ c.next_word-wo
 pub slice_bounds-with_name-end : goal.slice_bounds-with_name-end
 slice_bounds-with_name-end c = let g = braced_goes [] _ _ _ _ _ c.next_word-word.ensures 0 c.if-kind.false in omega arith
 
-pub loop-at-smaller-then-kind-eq0 : goal.loop-at-smaller-then-kind-eq0
-loop-at-smaller-then-kind-eq0 c = let g = braced_goes [] _ _ _ _ _ c.next_word-word.ensures 0 c.if-kind.false in omega arith
+pub loop-at-smaller-then-kind-eq-NAME : goal.loop-at-smaller-then-kind-eq-NAME
+loop-at-smaller-then-kind-eq-NAME c = let g = braced_goes [] _ _ _ _ _ c.next_word-word.ensures 0 c.if-kind.false in omega arith
 
-pub loop-at-preserved-then-kind-eq0 : goal.loop-at-preserved-then-kind-eq0
-loop-at-preserved-then-kind-eq0 c =
+pub loop-at-preserved-then-kind-eq-NAME : goal.loop-at-preserved-then-kind-eq-NAME
+loop-at-preserved-then-kind-eq-NAME c =
     let w = c.next_word-word in
     let l = c.loop-at in
-    l.invariant ∙ braced_name _ _ _ _ _ _ w.ensures l.set _ c.if-kind.false c.if-kind-eq0.true c.with_name-set.ensures
+    l.invariant ∙ braced_name _ _ _ _ _ _ w.ensures l.set _ c.if-kind.false c.if-kind-eq-NAME.true c.with_name-set.ensures
 
 pub loop-at-smaller : goal.loop-at-smaller
 loop-at-smaller c = let g = braced_goes [] _ _ _ _ _ c.next_word-word.ensures 0 c.if-kind.false in omega arith
@@ -38,4 +38,4 @@ loop-at-smaller c = let g = braced_goes [] _ _ _ _ _ c.next_word-word.ensures 0 
 pub loop-at-preserved : goal.loop-at-preserved
 loop-at-preserved c =
     let l = c.loop-at in
-    l.invariant ∙ braced_other _ _ _ _ _ _ c.next_word-word.ensures l.set c.if-kind.false c.if-kind-eq0.false
+    l.invariant ∙ braced_other _ _ _ _ _ _ c.next_word-word.ensures l.set c.if-kind.false c.if-kind-eq-NAME.false

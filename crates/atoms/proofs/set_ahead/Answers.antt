@@ -6,19 +6,19 @@ use Rattle.atoms.proofs.AtomSteps.{goes, set_name, set_braces, set_none}
 use Rattle.atoms.proofs.set_ahead.Goals as goal
 
 pub slice_bounds-with_name-count : goal.slice_bounds-with_name-count
-slice_bounds-with_name-count c = let g = goes _ _ _ _ _ c.next_word-word.ensures (λ f. let e = c.if-kind-eq0.true in omega arith) in omega arith
+slice_bounds-with_name-count c = let g = goes _ _ _ _ _ c.next_word-word.ensures (λ f. let e = c.if-kind-eq-NAME.true in omega arith) in omega arith
 
 pub slice_bounds-with_name-start : goal.slice_bounds-with_name-start
-slice_bounds-with_name-start c = let g = goes _ _ _ _ _ c.next_word-word.ensures (λ f. let e = c.if-kind-eq0.true in omega arith) in omega arith
+slice_bounds-with_name-start c = let g = goes _ _ _ _ _ c.next_word-word.ensures (λ f. let e = c.if-kind-eq-NAME.true in omega arith) in omega arith
 
 pub slice_bounds-with_name-end : goal.slice_bounds-with_name-end
-slice_bounds-with_name-end c = let g = goes _ _ _ _ _ c.next_word-word.ensures (λ f. let e = c.if-kind-eq0.true in omega arith) in omega arith
+slice_bounds-with_name-end c = let g = goes _ _ _ _ _ c.next_word-word.ensures (λ f. let e = c.if-kind-eq-NAME.true in omega arith) in omega arith
 
-pub returns-then-kind-eq0 : goal.returns-then-kind-eq0
-returns-then-kind-eq0 c = c.with_name.ensures ∙ set_name _ _ _ _ _ _ c.next_word-word.ensures c.if-kind-eq0.true
+pub returns-then-kind-eq-NAME : goal.returns-then-kind-eq-NAME
+returns-then-kind-eq-NAME c = c.with_name.ensures ∙ set_name _ _ _ _ _ _ c.next_word-word.ensures c.if-kind-eq-NAME.true
 
-pub returns-then-kind-eq23 : goal.returns-then-kind-eq23
-returns-then-kind-eq23 c = c.braced.ensures ∙ set_braces _ _ _ _ _ _ c.next_word-word.ensures c.if-kind-eq23.true
+pub returns-then-kind-eq-LEFT : goal.returns-then-kind-eq-LEFT
+returns-then-kind-eq-LEFT c = c.braced.ensures ∙ set_braces _ _ _ _ _ _ c.next_word-word.ensures c.if-kind-eq-LEFT.true
 
 pub returns : goal.returns
-returns c = set_none _ _ _ _ _ _ c.next_word-word.ensures c.if-kind-eq0.false c.if-kind-eq23.false
+returns c = set_none _ _ _ _ _ _ c.next_word-word.ensures c.if-kind-eq-NAME.false c.if-kind-eq-LEFT.false
