@@ -17,7 +17,7 @@ use Rattle.words.proofs.Turns.{turn, kind_as, bytes_as}
 use Rattle.encoding.specs.Records.{four, fours}
 use Rattle.pen.specs.Writing.{Puts}
 use Rattle.lists.specs.Lent.{found_from}
-use Rattle.lists.specs.declared.Found.{Found}
+use Rattle.std.specs.Prelude.{Option}
 use Rattle.own.specs.Ahead.{first_bytes, names_from}
 use Rattle.own.specs.Held.{Filled, all_names}
 use Rattle.whens.specs.Ahead.{guards_after, found_number, number_among, low4}
@@ -75,12 +75,12 @@ less_ahead text here k start end N on =
     omega arith
 
 -- the number of an own state, of an action
-pub own_told : (text table : List ℕ) (count rest : ℕ) (word : List ℕ) (f : Found) (r : ℕ) → Filled text table 2 26 0 count rest
+pub own_told : (text table : List ℕ) (count rest : ℕ) (word : List ℕ) (f : Option ℕ) (r : ℕ) → Filled text table 2 26 0 count rest
     → f ≡ found_from 0 (all_names text table count 2 26 rest) word → r ≡ found_number f → r ≡ own_number text word
 unfolding own_number
 own_told text table count rest word f r F e h = h ∙ ap found_number (e ∙ ap (λ (ns : List Name). found_from 0 ns word) F.filling.names)
 
-pub action_told : (ns : List Name) (word : List ℕ) (f : Found) (r : ℕ) → f ≡ found_from 0 ns word → r ≡ found_number f → r ≡ number_among ns word
+pub action_told : (ns : List Name) (word : List ℕ) (f : Option ℕ) (r : ℕ) → f ≡ found_from 0 ns word → r ≡ found_number f → r ≡ number_among ns word
 action_told ns word f r e h = h ∙ ap found_number e
 
 -- a guard record more, or none

@@ -1,11 +1,9 @@
 -- Guard places, numbers that were looked for, records cut to bytes.
 -- Assumes nothing.
-use Rattle.std.specs.Prelude.{ℕ, ◌+◌, ◌%◌, Bool, ◌&&◌, List, leb}
+use Rattle.std.specs.Prelude.{ℕ, ◌+◌, ◌%◌, Bool, ◌&&◌, Option, Some, None, List, leb}
 use Rattle.model.specs.Words.{choose}
 use Rattle.grammar.specs.Grammar.{Name}
 use Rattle.lists.specs.Lent.{found_from}
-use Rattle.lists.specs.declared.Found.{Found}
-use Rattle.lists.specs.declared.Found.TheVariants.{At, Nowhere}
 use Rattle.encoding.specs.Records.{Four, Eight, four, eight}
 
 -- the words that stand for a guard record: and, or, not, in_state, not_in_state
@@ -17,9 +15,9 @@ unfoldable pub guards_after : ℕ → ℕ → ℕ
 guards_after n k = choose (guard_kind k) (λ _. n + 1) (λ _. n)
 
 -- the number that was found, or 0
-abbrev pub found_number : Found → ℕ
-found_number (At i) = i
-found_number Nowhere = 0
+abbrev pub found_number : Option ℕ → ℕ
+found_number (Some i) = i
+found_number None = 0
 
 -- the number of a name among others; 0 where it is none of them
 abbrev pub number_among : List Name → Name → ℕ

@@ -10,7 +10,6 @@ ghost use Rattle.whens.specs.Ahead.{guards_after, found_number, number_among, lo
 ghost use Rattle.whens.specs.Naming.{NameAhead, Refers};
 ghost use Rattle.whens.specs.Whens.{own_number, when_at, WritesWhens};
 
-use lists::Found;
 use own::{Holding, ahead, hold, number_of};
 use pen::put_four;
 use words::next_word;
@@ -70,13 +69,10 @@ pub fn name_ahead(text: &[u8], at: usize) -> Stretch
 }
 
 // The number that was found, or 0.
-pub fn found_number(found: Found) -> usize
+pub fn found_number(found: Option<usize>) -> usize
     ensures { result ≡ found_number found }
 {
-    match found {
-        Found::At(i) => i,
-        Found::Nowhere => 0,
-    }
+    found.unwrap_or(0)
 }
 
 // The number of an own state; a table holds the places of the first own states' names.
