@@ -15,13 +15,13 @@ use Rattle.naming.specs.NameLists.{padded, records_in}
 use Rattle.words.specs.Scanning.{tokens_from, stretch, end_kind, Next}
 use Rattle.words.proofs.Turns.{turn, last, kind_as}
 use Rattle.lists.specs.Lent.{found_from}
-use Rattle.lists.specs.declared.Found.{Found}
+use Rattle.std.specs.Prelude.{Option}
 use Rattle.whens.specs.Ahead.{found_number}
 use Rattle.statements.specs.Statements.{is_statement, count_after, depth_after, ends_part, PartAhead, part_ahead, else_size, number_of}
 use Rattle.statements.specs.Parts.{else_at, PartEnds}
 
 -- the number in a list
-pub number_told : (size : ℕ) (list word : List ℕ) (f : Found) (r : ℕ) → f ≡ found_from 0 (records_in size list) (padded word) → r ≡ found_number f → r ≡ number_of size list word
+pub number_told : (size : ℕ) (list word : List ℕ) (f : Option ℕ) (r : ℕ) → f ≡ found_from 0 (records_in size list) (padded word) → r ≡ found_number f → r ≡ number_of size list word
 unfolding number_of
 number_told size list word f r e h = h ∙ ap found_number e
 
