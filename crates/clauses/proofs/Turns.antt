@@ -17,8 +17,7 @@ use Rattle.words.specs.Scanning.{words_from, tokens_from, stretch, end_kind, beh
 use Rattle.words.proofs.Turns.{turn, last, kind_as, bytes_as}
 use Rattle.naming.specs.NameLists.{padded, records_in}
 use Rattle.lists.specs.Lent.{found_from}
-use Rattle.lists.specs.declared.Found.{Found}
-use Rattle.lists.specs.declared.Found.TheVariants.{At, Nowhere}
+use Rattle.std.specs.Prelude.{Option, Some, None}
 use Rattle.encoding.specs.Records.{Four, fours}
 use Rattle.encoding.specs.Encoding.{state_bytes}
 use Rattle.pen.specs.Writing.{last_place, two, Puts}
@@ -83,11 +82,11 @@ module _ {text : List ℕ} {a : Ahead} {at n from : ℕ} (s : Numbering text a a
   numbering_small h = omega (arith, s.few, w.onward, w.moves h, w.inside h)
 
 -- the command that was found
-pub command_found : (commands word : List ℕ) {f : Found} {i : ℕ} → f ≡ found_from 0 (records_in 32 commands) (padded word) → f ≡ At i → i % 256 ≡ command_number commands word
+pub command_found : (commands word : List ℕ) {f : Option ℕ} {i : ℕ} → f ≡ found_from 0 (records_in 32 commands) (padded word) → f ≡ Some i → i % 256 ≡ command_number commands word
 unfolding command_number
 command_found commands word e g = ap numbered (sym g ∙ e)
 
-pub command_nowhere : (commands word : List ℕ) {f : Found} → f ≡ found_from 0 (records_in 32 commands) (padded word) → f ≡ Nowhere → 0 ≡ command_number commands word
+pub command_nowhere : (commands word : List ℕ) {f : Option ℕ} → f ≡ found_from 0 (records_in 32 commands) (padded word) → f ≡ None → 0 ≡ command_number commands word
 unfolding command_number
 command_nowhere commands word e g = ap numbered (sym g ∙ e)
 

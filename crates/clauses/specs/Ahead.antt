@@ -1,13 +1,11 @@
 -- What is told by the words ahead: how many clauses or statements, and which command.
 -- Assumes nothing.
-use Rattle.std.specs.Prelude.{ℕ, ◌%◌, Bool, ◌||◌, List, [], ◌∷◌, eqb}
+use Rattle.std.specs.Prelude.{ℕ, ◌%◌, Bool, ◌||◌, Option, Some, None, List, [], ◌∷◌, eqb}
 use Rattle.model.specs.Words.{choose}
 use Rattle.grammar.specs.Grammar.{Token, Name}
 use Rattle.grammar.specs.Kinds.{kind_of, bytes_of}
 use Rattle.naming.specs.NameLists.{padded, records_in}
 use Rattle.lists.specs.Lent.{found_from}
-use Rattle.lists.specs.declared.Found.{Found}
-use Rattle.lists.specs.declared.Found.TheVariants.{At, Nowhere}
 use Rattle.statements.specs.Statements.{is_statement}
 use Rattle.sizes.specs.Counting.{tick}
 use Rattle.clauses.specs.declared.Ahead.{Ahead}
@@ -31,9 +29,9 @@ number_ahead a [] = 0
 number_ahead a (w ∷ ws) = choose (stops a (kind_of w)) (λ _. 0) (λ _. tick (counts a (kind_of w)) (number_ahead a ws))
 
 -- a number that was found, in a byte
-abbrev pub numbered : Found → ℕ
-numbered (At i) = i % 256
-numbered Nowhere = 0
+abbrev pub numbered : Option ℕ → ℕ
+numbered (Some i) = i % 256
+numbered None = 0
 
 -- the number of a command in a list of them
 unfoldable pub command_number : List ℕ → Name → ℕ

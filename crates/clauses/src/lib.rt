@@ -11,7 +11,7 @@ ghost use Rattle.clauses.specs.Ahead.{counts, stops, number_ahead, command_numbe
 ghost use Rattle.clauses.specs.Bodies.{state_as, action_as, WritesStates, WritesActions};
 
 use kinds::{ACTION, DO, END, IF, MOVE_TO, STATE, WHEN};
-use lists::{Found, number_in};
+use lists::number_in;
 use pen::{put_one, put_two};
 use sizes::tick;
 use words::next_word;
@@ -72,8 +72,8 @@ fn command_number(commands: &[u8], name: &[u8]) -> u8
 {
     let found = number_in(commands, 32, name);
     match found {
-        Found::At(i) => (i % 256) as u8,
-        Found::Nowhere => 0,
+        Some(i) => (i % 256) as u8,
+        None => 0,
     }
 }
 
