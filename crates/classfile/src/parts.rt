@@ -6,7 +6,7 @@ ghost use Rattle.classfile.specs.Reads.{Added};
 
 use kinds::is_name;
 use laying::{put_name, put_number};
-use lists::{Found, number_in};
+use lists::number_in;
 use model::ChildName;
 use records::sets::has_name;
 
@@ -32,8 +32,7 @@ pub fn judge_name(list: &[u8], size: usize, left: usize, word: &[u8]) -> Result<
     if !is_name(word) {
         return Err(Fault::NoName);
     }
-    let found = number_in(list, size, word);
-    if let Found::At(_) = found {
+    if number_in(list, size, word).is_some() {
         return Err(Fault::NameTwice);
     }
     if left < size {
@@ -57,8 +56,7 @@ pub fn add_name(list: &mut [u8], used: usize, word: &[u8]) -> Result<(), Fault>
 pub fn add_state(names: &[u8], set: u32, word: &[u8]) -> Result<u32, Fault>
     ensures { result ≡ add_state names.now set word.now }
 {
-    let found = number_in(names, 32, word);
-    let Found::At(n) = found else {
+    let Some(n) = number_in(names, 32, word) else {
         return Err(Fault::NotListed);
     };
     if 31 < n {
