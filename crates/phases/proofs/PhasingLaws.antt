@@ -1,6 +1,6 @@
 -- Laws about specs/Phasing.antt: what is answered where a phase loops, settles, or is too long for the buffer.
 -- Assumes nothing.
-use Prim.Native.Nat.{ℕ, ◌-◌, ◌<◌, ◌≤◌}
+use Prim.Native.Nat.{ℕ, ◌<◌, ◌≤◌}
 use native.Mathlib.Omega.{arith}
 use mathlib.Core.Path.{◌≡◌, refl, sym, ◌∙◌, ap}
 use mathlib.Core.List.{List, ◌∷◌, ◌++◌}
@@ -74,15 +74,15 @@ module _ (t : Tree.Phase) (before after : List ℕ) (e : Ending) (s : OwnState) 
   short_told out final same l = short_so t out final (omega (arith, count_is, ap length same)) same
 
   -- a second walk on as much of the buffer as was counted
-  pub settled_told : (out out' room last : List ℕ) (r : Phase) → out' ≡ out → n ≤ length out' → Walked t room last r → room ≡ take (n - 0) out' → PhasedSo t out (last ++ drop (n - 0) out') (Ok r)
+  pub settled_told : (out out' room last : List ℕ) (r : Phase) → out' ≡ out → n ≤ length out' → Walked t room last r → room ≡ take n out' → PhasedSo t out (last ++ drop n out') (Ok r)
   unfolding bytes_of_phase
   settled_told out out' room last r same l W er =
       let (d, q, k, sent, f) = is_settled in
       let bytes_are : bytes_of_phase t ≡ sent_bytes sent = ap bytes_of_phase f in
       let long : n ≡ length (sent_bytes sent) = count_is ∙ ap length bytes_are in
-      let c : last ≡ sent_bytes sent = W.written d q k sent f ∙ sets_all room (sent_bytes sent) (omega (arith, ap length er, length-take (n - 0) out')) in
-      let z : n - 0 ≡ length (bytes_of_phase t) = omega (arith, count_is) in
-      given_so t out (last ++ drop (n - 0) out') r W.numbers_are (omega (arith, count_is, ap length same))
+      let c : last ≡ sent_bytes sent = W.written d q k sent f ∙ sets_all room (sent_bytes sent) (omega (arith, ap length er, length-take n out')) in
+      let z : n ≡ length (bytes_of_phase t) = count_is in
+      given_so t out (last ++ drop n out') r W.numbers_are (omega (arith, count_is, ap length same))
       (rw (z, same) (ap (λ (l : List ℕ). l ++ drop (length (bytes_of_phase t)) out) (c ∙ sym bytes_are)))
 
 -- a phase that loops writes nothing and needs no room

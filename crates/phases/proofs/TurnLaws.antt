@@ -14,7 +14,7 @@ use Rattle.model.specs.Node.{state_of, action_of, Probed, nothing, found, probe,
 use Rattle.model.specs.Sound.{ReferrerRight}
 use Rattle.model.specs.declared.OwnState.{OwnState}
 use Rattle.model.specs.declared.Ending.TheVariants.{ByNone, ByStay, ByDo}
-use Rattle.model.specs.declared.Probed as Code
+use Rattle.model.specs.Answers as Code
 use Rattle.model.specs.declared.Referrer.{Referrer}
 use Rattle.model.specs.declared.Referrer.TheVariants.{MoveTo, Do, Stay}
 use Rattle.model.proofs.NodeLaws.{get_or_mem, probe_found, sent_by, sends_is}
@@ -31,7 +31,6 @@ use Rattle.children.specs.NameSets.{Crewed}
 use Rattle.children.proofs.ChildListLaws.{half, bytes_most}
 use Rattle.node.specs.Probing.{Probes}
 use Rattle.running.specs.Running.{moved_as, Writes}
-use Rattle.running.specs.declared.Moved.TheVariants.{Not, To}
 use Rattle.running.specs.declared.Ran.{Ran}
 use Rattle.running.proofs.ActionLaws.{state_inside, action_read}
 use Rattle.phases.specs.Phases.{turn_as, TurnIs, Turns, RunsDo}
@@ -54,12 +53,12 @@ turn_silent t out at r e f g =
 
 -- a DO that was run: its clause reached a move_to, or not
 module _ (m : ℕ) (ran : Tree.Ran) (before after : List ℕ) (at : ℕ) (r : Ran) (w : Writes ran.sent before after at r.at) (e : moved_as r.moved ≡ ran.moved) where
-  pub do_moves : (t : OwnState) → r.moved ≡ To t → TurnIs (turn_by m ran) before after at (record { turn = Moves t; at = r.at })
+  pub do_moves : (t : OwnState) → r.moved ≡ Some t → TurnIs (turn_by m ran) before after at (record { turn = Moves t; at = r.at })
   do_moves t f =
       let z : ran.moved ≡ some t.0 = sym e ∙ ap moved_as f in
       rw z (record { turn_is = refl; writes = w })
 
-  pub do_stops : (x : ℕ) → r.moved ≡ Not → x ≡ m → TurnIs (turn_by m ran) before after at (record { turn = Stops (ByDo x); at = r.at })
+  pub do_stops : (x : ℕ) → r.moved ≡ None → x ≡ m → TurnIs (turn_by m ran) before after at (record { turn = Stops (ByDo x); at = r.at })
   do_stops x f g =
       let z : ran.moved ≡ none = sym e ∙ ap moved_as f in
       rw z (record { turn_is = ap (λ (y : ℕ). stops (by_do y) ran.sent) g; writes = w })

@@ -8,6 +8,7 @@ use mathlib.Core.List.{List, [], ◌∷◌, ◌++◌}
 use mathlib.Core.Option.{some}
 use lib.ListN.{length, get_or, set, replicate, length-set}
 use lib.Seq.{sets, length-sets, get_or-set_same, get_or-set_other}
+use Rattle.std.specs.Prelude.{Option as Maybe, Some, None}
 use Rattle.model.specs.Words.{Bytes}
 use Rattle.model.specs.Tree.{Child}
 use Rattle.model.specs.Moves.{Next, after, Ends}
@@ -18,7 +19,6 @@ use Rattle.model.specs.declared.OwnState.{OwnState}
 use Rattle.model.specs.declared.Ending.{Ending}
 use Rattle.model.specs.declared.Phase.TheVariants.{Settled, Loops as Looping}
 use Rattle.model.proofs.Words.{clash}
-use Rattle.model.proofs.Lists.{get_or_alike}
 use Rattle.model.proofs.Moves.{after_add, after_some, after_zero, never_twice}
 use Rattle.model.proofs.NodeLaws.{next_within, stops_next, moves_next, next_moves}
 use Rattle.records.specs.Bytes.{in_fours}
@@ -47,10 +47,16 @@ writes_on xs ys before mid after at next end v w =
     }
 
 -- what stands past the end of a list does not matter inside it
-pub inside_same : (l : List ℕ) (i d e : ℕ) → i < length l → get_or l i d ≡ get_or l i e
+pub inside_same : {A : Type 0} (l : List A) (i : ℕ) (d e : A) → i < length l → get_or l i d ≡ get_or l i e
 inside_same [] i d e h = absurd (omega arith)
 inside_same (x ∷ l) zero d e h = refl
 inside_same (x ∷ l) (suc i) d e h = inside_same l i d e (omega arith)
+
+-- of no state is it known at first where it leads
+none_known : (n r : ℕ) → get_or {A = Maybe OwnState} (replicate n None) r None ≡ None
+none_known zero r = refl
+none_known (suc n) zero = refl
+none_known (suc n) (suc r) = none_known n r
 
 -- where the next move leads with the children of a list
 abbrev next_in : List ℕ → List ℕ → Next
@@ -58,13 +64,13 @@ next_in b list = Tree.next (class_of b) (children_of list)
 
 -- before a turn in state `at`, with m moves made: where the states passed led, what was sent, and that it stands in the buffer up to `end`, if
 -- the phase ends
-pub record Walking (b list : List ℕ) (q most : ℕ) (before to : List ℕ) (at m end : ℕ) (out : List ℕ) : Type 0 where
+pub record Walking (b list : List ℕ) (q most : ℕ) (before : List ℕ) (to : List (Maybe OwnState)) (at m end : ℕ) (out : List ℕ) : Type 0 where
   pub inside : m ≤ most
   pub low : at < most
   pub long : length to ≡ 32
   pub same : length out ≡ length before
   pub there : after (next_in b list) m q ≡ some at
-  pub known : (r : ℕ) → (get_or to r 255 ≡ 255 → ⊥) → (next_in b list r ≡ some (get_or to r 255)) × ((j : ℕ) × (j < m) × (after (next_in b list) j q ≡ some r))
+  pub known : (r : ℕ) (t : OwnState) → get_or to r None ≡ Some t → (next_in b list r ≡ some t.0) × ((j : ℕ) × (j < m) × (after (next_in b list) j q ≡ some r))
   pub sent : List Sent
   pub walked : Tree.phase (class_of b) (children_of list) q ≡ Tree.walk (class_of b) (children_of list) (most - m) at m sent
   pub fresh : Ends (next_in b list) q → Writes sent before out 0 end
@@ -88,7 +94,7 @@ module _ (b list : List ℕ) (bytes : Bytes b) (accepted : Accepted b) (short : 
   within : (r t : ℕ) → next r ≡ some t → t < most
   within r t e = rw (← own) (next_within (class_of b) ks (sound b bytes accepted) r t e)
 
-  pub walking_start : (before : List ℕ) → q < most → Walking b list q most before (replicate 32 255) q 0 0 before
+  pub walking_start : (before : List ℕ) → q < most → Walking b list q most before (replicate 32 None) q 0 0 before
   unfolding Tree.phase sent_bytes
   walking_start before l =
       let z : most - 0 ≡ Tree.own_states (class_of b) = (let o = own in omega arith) in
@@ -98,24 +104,24 @@ module _ (b list : List ℕ) (bytes : Bytes b) (accepted : Accepted b) (short : 
         long = refl;
         same = refl;
         there = after_zero next q;
-        known = λ r n. absurd (n (get_or_alike 32 r 255));
+        known = λ r t e. absurd (clash (cc (sym (none_known 32 r) ∙ e)));
         sent = [];
         walked = rw z;
         fresh = λ e. record { buffer = refl; place = refl };
         small = omega arith;
       }
 
-  module _ (before to : List ℕ) (at m end : ℕ) (out : List ℕ) (w : Walking b list q most before to at m end out) where
+  module _ (before : List ℕ) (to : List (Maybe OwnState)) (at m end : ℕ) (out : List ℕ) (w : Walking b list q most before to at m end out) where
     -- S moves are made
     all_made : most ≤ m → Tree.phase (class_of b) ks q ≡ Tree.loops at m
     unfolding Tree.walk
     all_made l = let z : most - m ≡ 0 = omega arith in w.walked ∙ rw z
 
-    pub walk_loops : most ≤ m → (s : OwnState) → s.0 ≡ at → Walks b list q before out (Looping s m)
+    pub walk_loops : most ≤ m → (s : OwnState) → s.0 ≡ at → Walks b list q before out (Looping s most)
     unfolding phasing_values
     walk_loops l s e =
         record {
-          numbers_are = rw (all_made l, e);
+          numbers_are = let z : m ≡ most = omega (arith, w.inside, l) in rw (all_made l, e, z);
           written = λ e r k sent h. absurd (clash (cc (sym (all_made l) ∙ h)));
         }
 
@@ -133,21 +139,21 @@ module _ (b list : List ℕ) (bytes : Bytes b) (accepted : Accepted b) (short : 
       there_on t h = after_add next m 1 q at w.there ∙ after_some next 0 at t h ∙ after_zero next t
 
       -- where the state led is known: it was passed before, so the phase never ends
-      pub walking_known : (t : ℕ) → t ≡ get_or to at 255 → (t ≡ 255 → ⊥) → Walking b list q most before to t (m + 1) end out
-      walking_known t e n =
-          let K = w.known at (λ z. n (e ∙ z)) in
-          let h : next at ≡ some t = K.0 ∙ ap some (sym e) in
+      pub walking_known : (t : OwnState) → get_or to at None ≡ Some t → Walking b list q most before to t.0 (m + 1) end out
+      walking_known t e =
+          let K = w.known at t e in
+          let h : next at ≡ some t.0 = K.0 in
           let (j, jl, passed) = K.1 in
-          let (x, moves) = next_moves (class_of b) ks at t h in
+          let (x, moves) = next_moves (class_of b) ks at t.0 h in
           record {
             inside = omega arith;
-            low = within at t h;
+            low = within at t.0 h;
             long = w.long;
             same = w.same;
-            there = there_on t h;
-            known = λ r d. let (y, (i, il, z)) = w.known r d in (y, (i, (omega arith), z));
+            there = there_on t.0 h;
+            known = λ r u d. let (y, (i, il, z)) = w.known r u d in (y, (i, (omega arith), z));
             sent = w.sent ++ x;
-            walked = walk_on t x moves;
+            walked = walk_on t.0 x moves;
             fresh = λ E. absurd (never_twice next q j m at jl passed w.there E);
             small = (let s = w.small in omega arith);
           }
@@ -157,7 +163,7 @@ module _ (b list : List ℕ) (bytes : Bytes b) (accepted : Accepted b) (short : 
         written_on : Ends next q → Writes (w.sent ++ Tree.sent_in (Tree.turn (class_of b) ks at)) before after_turn_lem 0 r.at
         written_on E = writes_on w.sent (Tree.sent_in (Tree.turn (class_of b) ks at)) before out after_turn_lem 0 end r.at (w.fresh E) T.writes
 
-        pub walking_moves : (t : OwnState) → r.turn ≡ Moves t → Walking b list q most before (set to at t.0) t.0 (m + 1) r.at after_turn_lem
+        pub walking_moves : (t : OwnState) → r.turn ≡ Moves t → Walking b list q most before (set to at (Some t)) t.0 (m + 1) r.at after_turn_lem
         unfolding Tree.sends
         walking_moves t e =
             let x = Tree.sent_in (Tree.turn (class_of b) ks at) in
@@ -166,25 +172,25 @@ module _ (b list : List ℕ) (bytes : Bytes b) (accepted : Accepted b) (short : 
             record {
               inside = omega arith;
               low = within at t.0 h;
-              long = length-set to at t.0 ∙ w.long;
+              long = length-set to at (Some t) ∙ w.long;
               same = ap length T.writes.buffer ∙ length-sets out end (sent_bytes x) ∙ w.same;
               there = there_on t.0 h;
-              known = λ s d. learnt s d (ℕ_discrete at s) h;
+              known = λ s u d. learnt s u d (ℕ_discrete at s) h;
               sent = w.sent ++ x;
               walked = walk_on t.0 x moves;
               fresh = written_on;
               small = (let a = w.small in omega (arith, T.writes.place, sends_most b (accepted_right b accepted) at list short));
             }
           where
-            learnt : (s : ℕ) → (get_or (set to at t.0) s 255 ≡ 255 → ⊥) → Dec (at ≡ s) → next at ≡ some t.0
-                → (next s ≡ some (get_or (set to at t.0) s 255)) × ((j : ℕ) × (j < m + 1) × (after next j q ≡ some s))
-            learnt s d (yes z) h =
-                let same : get_or (set to at t.0) s 255 ≡ t.0 = rw (← z) (get_or-set_same to at t.0 255 (let u = w.low in let v = w.long in omega (arith, few))) in
-                (rw (← z) h ∙ ap some (sym same), (m, (omega arith), w.there ∙ ap some z))
-            learnt s d (no n) h =
-                let other : get_or (set to at t.0) s 255 ≡ get_or to s 255 = get_or-set_other to at s t.0 255 (λ z. n (sym z)) in
-                let (y, (i, il, z)) = w.known s (λ f. d (other ∙ f)) in
-                (y ∙ ap some (sym other), (i, (omega arith), z))
+            learnt : (s : ℕ) (u : OwnState) → get_or (set to at (Some t)) s None ≡ Some u → Dec (at ≡ s) → next at ≡ some t.0 → (next s ≡ some u.0) × ((j : ℕ) × (j < m + 1) × (after next j q ≡ some s))
+            learnt s u d (yes z) h =
+                let set_there : get_or (set to at (Some t)) s None ≡ Some t = rw (← z) (get_or-set_same to at (Some t) None (let l = w.low in let v = w.long in omega (arith, few))) in
+                let same : t ≡ u = cc (sym set_there ∙ d) in
+                (rw (← z) h ∙ ap (λ (o : OwnState). some o.0) same, (m, (omega arith), w.there ∙ ap some z))
+            learnt s u d (no n) h =
+                let other : get_or (set to at (Some t)) s None ≡ get_or to s None = get_or-set_other to at s (Some t) None (λ z. n (sym z)) in
+                let (y, (i, il, z)) = w.known s u (sym other ∙ d) in
+                (y, (i, (omega arith), z))
 
         pub walk_settles : (e : Ending) (s : OwnState) → s.0 ≡ at → r.turn ≡ Stops e → Walks b list q before after_turn_lem (Settled e s m r.at)
         unfolding Tree.walk phasing_values

@@ -16,7 +16,7 @@ use accepted::readers::{body_of, clauses_of, state_count};
 use bodies::clauses::{ACTION_CLAUSES, action_command};
 use model::{Ending, OwnState, Phase, Referrer, Refusal};
 use node::probing::probe;
-use running::{Moved, run_action};
+use running::run_action;
 use sheet::judging::Places;
 
 // One turn: the phase ends, or the node moves.
@@ -39,8 +39,7 @@ fn command_of(sheet: &[u8], p: Places, q: OwnState, a: u8) -> u8
     ensures { result ≡ action_command (body sheet.now 4) (first_action (body sheet.now 1) q.0 + a) }
 {
     let clauses = clauses_of(sheet, p, q, ACTION_CLAUSES);
-    let first = clauses.first;
-    action_command(body_of(sheet, p, ACTIONS), first + (a as usize))
+    action_command(body_of(sheet, p, ACTIONS), clauses.first + (a as usize))
 }
 
 // A DO runs its clause at once: a move, if that reaches a move_to; else the phase ends there.
@@ -59,18 +58,11 @@ fn run_do(
     ensures { RunsDo sheet.now list.now q.0 a out.old out.new at result }
 {
     let ran = run_action(sheet, p, list, sets, q, a as usize, out, at);
-    let moved = ran.moved;
-    let end = ran.at;
-    match moved {
-        Moved::To(to) => Turned {
-            turn: Turn::Moves(to),
-            at: end,
-        },
-        Moved::Not => Turned {
-            turn: Turn::Stops(Ending::ByDo(command_of(sheet, p, q, a))),
-            at: end,
-        },
-    }
+    let turn = match ran.moved {
+        Some(to) => Turn::Moves(to),
+        None => Turn::Stops(Ending::ByDo(command_of(sheet, p, q, a))),
+    };
+    Turned { turn, at: ran.at }
 }
 
 // What follows from the probe of state q; what it sends is written from a place on.
@@ -113,35 +105,26 @@ fn walk(sheet: &[u8], p: Places, list: &[u8], sets: [u32; 8], q: OwnState, out: 
     ensures { Walks sheet.now list.now q.0 out.old out.new result }
 {
     let most = state_count(sheet, p);
-    let mut to = [255u8; 32];
+    let mut to: [Option<OwnState>; 32] = [None; 32];
     let mut at = q;
     let mut end = 0;
-    let mut moves = 0;
-    while moves < most {
-        let made = moves;
-        let here = at;
-        let i = here.0 as usize;
-        let known = to[i];
-        moves = moves + 1;
-        if known != 255 {
-            at = OwnState(known);
-        } else {
-            let turned = turn_from(sheet, p, list, sets, here, out, end);
-            let turn = turned.turn;
-            let behind = turned.at;
-            match turn {
-                Turn::Stops(e) => {
-                    return Phase::Settled(e, here, made, behind);
-                }
-                Turn::Moves(t) => {
-                    to[i] = t.0;
-                    at = t;
-                    end = behind;
-                }
+    for made in 0..most {
+        let i = at.0 as usize;
+        if let Some(t) = to[i] {
+            at = t;
+            continue;
+        }
+        let turned = turn_from(sheet, p, list, sets, at, out, end);
+        match turned.turn {
+            Turn::Stops(e) => return Phase::Settled(e, at, made, turned.at),
+            Turn::Moves(t) => {
+                to[i] = Some(t);
+                at = t;
+                end = turned.at;
             }
         }
     }
-    Phase::Loops(at, moves)
+    Phase::Loops(at, most)
 }
 
 // The when phase from state q: 15 where it settles and its commands need more than the buffer holds, and then nothing is written.
@@ -157,13 +140,13 @@ pub fn when_phase(
     requires q_bound { q.0 < in_fours (body sheet.now 1) }
     ensures { Phases sheet.now list.now q.0 out.old out.new result }
 {
-    let counted = walk(sheet, p, list, sets, q, &mut out[0..0]);
+    let counted = walk(sheet, p, list, sets, q, &mut out[..0]);
     match counted {
         Phase::Settled(_, _, _, needed) => {
             if out.len() < needed {
                 return Err(Refusal::Room);
             }
-            Ok(walk(sheet, p, list, sets, q, &mut out[0..needed]))
+            Ok(walk(sheet, p, list, sets, q, &mut out[..needed]))
         }
         Phase::Loops(_, _) => Ok(counted),
     }

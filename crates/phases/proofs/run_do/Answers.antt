@@ -5,10 +5,10 @@ use Rattle.sheet.proofs.Rules.{accepted_right}
 use Rattle.phases.proofs.TurnLaws.{do_moves, do_stops, command_told}
 use Rattle.phases.proofs.run_do.Goals as goal
 
-pub returns-in-To : goal.returns-in-To
-returns-in-To c = let r = c.run_action-ran.ensures in do_moves _ _ _ _ _ _ r.writes r.moved _ c.in-To.is
+pub returns-in-Some : goal.returns-in-Some
+returns-in-Some c = let r = c.run_action-ran.ensures in do_moves _ _ _ _ _ _ r.writes r.moved _ c.in-Some.is
 
-pub returns-in-Not : goal.returns-in-Not
-returns-in-Not c =
-    do_stops _ _ _ _ _ _ c.run_action-ran.ensures.writes c.run_action-ran.ensures.moved _ c.in-Not.is
+pub returns-in-None : goal.returns-in-None
+returns-in-None c =
+    do_stops _ _ _ _ _ _ c.run_action-ran.ensures.writes c.run_action-ran.ensures.moved _ c.in-None.is
     (c.command_of.ensures ∙ sym (command_told c.args.sheet.now (accepted_right _ c.requires.stands.0.accepted) c.args.q.0 c.args.a c.requires.a_bound.0))
