@@ -1,47 +1,24 @@
 -- Room for one more record: byte by byte, and what the records then are.
 -- Assumes nothing.
-use Prim.Native.Nat.{ℕ, zero, suc, ◌+◌, ◌-◌, ◌*◌, ◌≤◌, ◌<◌}
+use Prim.Native.Nat.{ℕ, zero, suc, ◌+◌, ◌-◌, ◌*◌, ◌≤◌}
 use native.Mathlib.Omega.{arith}
 use mathlib.Core.Path.{◌≡◌, refl, sym, ◌∙◌, ap}
 use mathlib.Core.List.{List, [], ◌∷◌, ◌++◌, append_assoc}
-use lib.ListN.{length, get_or, take, drop, set, length-append, length-take, length-drop, take-append-drop, get_or-append}
-use lib.Seq.{sets, sets-eq, take-take, take-nil, drop-cons, get_or-take, set-append_left, take-set-lt, take-suc-set, append_snoc, take-append-le, take_at, drop_at, length-take-le}
+use lib.ListN.{length, take, drop, length-append, length-take, length-drop}
+use lib.Seq.{sets, sets-eq, take-take, take-nil, take-append-le, take_at, drop_at, length-take-le}
+use Rattle.std.specs.List.{copy_within}
 use Rattle.encoding.specs.Records.{Eight, bytes8, eights}
 use Rattle.encoding.proofs.From.{length_eights, drop_eights}
 use Rattle.ordering.specs.Ordering.{inserted}
 use Rattle.prefixed.specs.Inserting.{opened, with_record}
 
--- the loop that opens the room: before its first turn, and a turn
-pub opened_none : (to : ℕ) (b : List ℕ) → b ≡ opened to to b
+-- the bytes copied are those of which room is left
+pub opened_copied : (from to : ℕ) (b : List ℕ) → from ≤ to → copy_within b from to (from + 8) ≡ opened from to b
 unfolding opened
-opened_none to b = let e : to - to ≡ 0 = omega arith in rw e (sym (take-append-drop (to + 8) b))
-
-module _ (to j : ℕ) (b : List ℕ) (inner : j < to) (room : to + 8 ≤ length b) where
-  rest : List ℕ
-  rest = take (to - suc j) (drop (suc j) b) ++ drop (to + 8) b
-
-  front : length (take (suc (j + 8)) b) ≡ suc (j + 8)
-  front = length-take-le (suc (j + 8)) b (omega arith)
-
-  opened_at : get_or (take (suc (j + 8)) b ++ rest) j 0 ≡ get_or b j 0
-  opened_at = get_or-append (take (suc (j + 8)) b) rest 0 j (omega (arith, front)) ∙ get_or-take (suc (j + 8)) b j 0 (omega arith)
-
-  opened_store : (v : ℕ) → set (take (suc (j + 8)) b ++ rest) (j + 8) v ≡ take (j + 8) b ++ v ∷ rest
-  opened_store v =
-      set-append_left (take (suc (j + 8)) b) rest (j + 8) v (omega (arith, front))
-      ∙ ap (λ (x : List ℕ). x ++ rest) (sym (take-set-lt (suc (j + 8)) b (j + 8) v (omega arith)) ∙ take-suc-set b (j + 8) v (omega arith))
-      ∙ append_snoc (take (j + 8) b) v rest
-
-  opened_down : set (opened (suc j) to b) (j + 8) (get_or (opened (suc j) to b) j 0) ≡ opened j to b
-  unfolding opened rest
-  opened_down =
-      let e : suc j + 8 ≡ suc (j + 8) = omega arith in
-      let f : to - j ≡ suc (to - suc j) = omega arith in
-      rw e (rw opened_at (opened_store (get_or b j 0) ∙ rw (f, drop-cons b j 0 (omega arith))))
-
-pub opened_more : (to i : ℕ) (b cur : List ℕ) → 0 < i → i ≤ to → to + 8 ≤ length b → cur ≡ opened i to b → set cur (i - 1 + 8) (get_or cur (i - 1) 0) ≡ opened (i - 1) to b
-opened_more to zero b cur h l m e = absurd (omega arith)
-opened_more to (suc j) b cur h l m e = let z : suc j - 1 ≡ j = omega arith in rw (e, z) (opened_down to j b (omega arith) m)
+opened_copied from to b h =
+    let z : from + 8 + (to - from) ≡ to + 8 = omega arith in
+    append_assoc (take (from + 8) b) (take (to - from) (drop from b)) (drop (from + 8 + (to - from)) b)
+    ∙ ap (λ (n : ℕ). take (from + 8) b ++ (take (to - from) (drop from b) ++ drop n b)) z
 
 -- the record written there
 overwritten : (n : ℕ) (vs b ys : List ℕ) → n + length vs ≤ length b → sets (take (n + length vs) b ++ ys) n vs ≡ take n b ++ (vs ++ ys)

@@ -20,10 +20,9 @@ use Rattle.encoding.specs.Records.{eights}
 use Rattle.encoding.specs.Encoding.{operator_record, all_guards}
 use Rattle.ordering.specs.declared.Mark.{Mark}
 use Rattle.ordering.specs.declared.Mark.TheVariants.{Any, All, Edge, And, Or, Not, Open, Close, Other}
-use Rattle.ordering.specs.declared.Ahead.{Ahead}
-use Rattle.ordering.specs.declared.Ahead.TheVariants.{Atom, Nothing}
+use Rattle.std.specs.Prelude.{Some, None}
 use Rattle.prefixed.specs.declared.walks.Stand.{Stand}
-use Rattle.ordering.specs.Ordering.{Way, key, run, atom_record, atom_ahead, mark_of, with_atom, turn, walked, at_first, in_prefix_order}
+use Rattle.ordering.specs.Ordering.{Ahead, Way, key, run, atom_record, atom_ahead, mark_of, with_atom, turn, walked, at_first, in_prefix_order}
 use Rattle.prefixed.specs.Walking.{latest, Safe, Shows, Fits, Turned, Ordered}
 use Rattle.atoms.proofs.AtomSteps.{goes}
 use Rattle.prefixed.proofs.WalkLaws.{length_inserted}
@@ -32,8 +31,8 @@ use Rattle.ordering.proofs.Whole.{text_walk}
 -- records only come
 module _ (names classes : List (List ℕ)) where
   atom_grows : (a : Ahead) (w : Way) → length w.records ≤ length (with_atom a w).records
-  atom_grows (Atom k p s) w = omega (arith, length_inserted 0 (atom_record k p s) w.records)
-  atom_grows Nothing w = omega arith
+  atom_grows (Some (k, p, s)) w = omega (arith, length_inserted 0 (atom_record k p s) w.records)
+  atom_grows None w = omega arith
 
   turn_grows : (m : Mark) (rest : List Token) (w : Way) → length w.records ≤ length (turn names classes m rest w).records
   unfolding turn

@@ -13,10 +13,9 @@ use Rattle.encoding.specs.Records.{Eight}
 use Rattle.encoding.specs.Encoding.{operator_record}
 use Rattle.ordering.specs.declared.Mark.{Mark}
 use Rattle.ordering.specs.declared.Mark.TheVariants.{Any, All, Edge, And, Or, Not, Open, Close, Other}
-use Rattle.ordering.specs.declared.Ahead.{Ahead}
-use Rattle.ordering.specs.declared.Ahead.TheVariants.{Atom, Nothing}
+use Rattle.std.specs.Prelude.{Some, None}
 use Rattle.prefixed.specs.declared.walks.Stand.{Stand}
-use Rattle.ordering.specs.Ordering.{Way, key, reaches, run, inserted, put, atom_record, atom_ahead, with_atom, with_operator, turn}
+use Rattle.ordering.specs.Ordering.{Ahead, Way, key, reaches, run, inserted, put, atom_record, atom_ahead, with_atom, with_operator, turn}
 use Rattle.prefixed.specs.Inserting.{with_record}
 use Rattle.prefixed.specs.Walking.{latest, LeftOperand, leveled, Safe, Shows, Fits, Turned}
 use Rattle.prefixed.proofs.InsertLaws.{inserted_bytes}
@@ -59,13 +58,14 @@ module _ (keys : List ℕ) (first count k : ℕ) where
         ap (run k) (latest_at h) ∙ not_met (get_or keys (i - 1) 0) (latest keys first (i - 1 - first)) (not-true (reaches k (get_or keys (i - 1) 0)) e) in
         record { inside = m; long = omega arith }
 
-    pub back_end : i ≤ first → LeftOperand keys first count k i
+    pub back_end : i ≤ first → LeftOperand keys first count k first
     unfolding latest run
     back_end h =
         let (l, m, r) = b in
-        let e : i - first ≡ 0 = omega arith in
-        let f : run k (latest keys first (i - first)) ≡ 0 = ap (λ (n : ℕ). run k (latest keys first n)) e in
-        record { inside = m; long = omega arith }
+        let e : i ≡ first = omega arith in
+        let z : i - first ≡ 0 = omega arith in
+        let f : run k (latest keys first (i - first)) ≡ 0 = ap (λ (n : ℕ). run k (latest keys first n)) z in
+        subst (LeftOperand keys first count k) e (record { inside = m; long = omega arith })
 
 -- f is done, and g does the same
 pub turned_as : {s r : Stand} {keys bytes after_keys after_bytes : List ℕ} {f : Way → Way} (g : Way → Way) → Turned s r keys bytes after_keys after_bytes f
@@ -161,14 +161,14 @@ module _ {s r : Stand} {keys bytes after_keys after_bytes : List ℕ} where
           let e : s.count - s.count ≡ 0 = omega arith in
           ap (λ (m : ℕ). put m (s.level * 2 + 2) (operator_record 6) w) e ∙ ap (λ (n : ℕ). put 0 (key n 2) (operator_record 6) w) (sym shown.level)
 
-  pub atom_done : (a : Ahead) (k p set : ℕ) → a ≡ Atom k p set → Turned s r keys bytes after_keys after_bytes (put (s.count - s.count) 0 (atom_record k p set))
+  pub atom_done : (a : Ahead) (k p set : ℕ) → a ≡ Some (k, p, set) → Turned s r keys bytes after_keys after_bytes (put (s.count - s.count) 0 (atom_record k p set))
       → Turned s r keys bytes after_keys after_bytes (with_atom a)
   atom_done a k p set e t =
       turned_as (with_atom a) t
       (λ w shown.
       ap (λ (m : ℕ). put m 0 (atom_record k p set) w) (let z : s.count - s.count ≡ 0 = omega arith in z) ∙ ap (λ (x : Ahead). with_atom x w) (sym e))
 
-pub atom_none : (s : Stand) (keys bytes : List ℕ) → Safe s keys bytes → (a : Ahead) → a ≡ Nothing → Turned s s keys bytes keys bytes (with_atom a)
+pub atom_none : (s : Stand) (keys bytes : List ℕ) → Safe s keys bytes → (a : Ahead) → a ≡ None → Turned s s keys bytes keys bytes (with_atom a)
 atom_none s keys bytes safe a e = stays s keys bytes safe (with_atom a) (λ w. ap (λ (x : Ahead). with_atom x w) (sym e))
 
 -- the words that only count
@@ -185,23 +185,23 @@ module _ (names classes : List (List ℕ)) (rest : List Token) (s : Stand) (keys
       }
 
   -- a bracket: the level alone changes
-  bracketed : (r : Stand) (n : ℕ) (f : ℕ → ℕ) → r ≡ leveled s n → n ≡ f s.level → n ≤ s.level + 1
-      → Turned s r keys bytes keys bytes (λ w. record { level = f w.level; keys = w.keys; records = w.records })
-  bracketed r n f q e l =
-      rw q (record {
+  bracketed : (n : ℕ) (f : ℕ → ℕ) → n ≡ f s.level → n ≤ s.level + 1
+      → Turned s (leveled s n) keys bytes keys bytes (λ w. record { level = f w.level; keys = w.keys; records = w.records })
+  bracketed n f e l =
+      record {
         safe = record { begun = safe.begun; held = safe.held; room = safe.room };
         risen = l;
         shows = λ w shown fit.
             record { level = ap f shown.level ∙ sym e; latest_keys = shown.latest_keys; count = shown.count; records = shown.records };
-      })
+      }
 
-  pub open_done : (r : Stand) → r ≡ leveled s (s.level + 1) → Turned s r keys bytes keys bytes (turn names classes Open rest)
+  pub open_done : Turned s (leveled s (s.level + 1)) keys bytes keys bytes (turn names classes Open rest)
   unfolding turn
-  open_done r q = bracketed r (s.level + 1) (λ n. n + 1) q refl (omega arith)
+  open_done = bracketed (s.level + 1) (λ n. n + 1) refl (omega arith)
 
-  pub close_done : (r : Stand) (n : ℕ) → r ≡ leveled s n → n ≡ s.level - 1 → Turned s r keys bytes keys bytes (turn names classes Close rest)
+  pub close_done : (n : ℕ) → n ≡ s.level - 1 → Turned s (leveled s n) keys bytes keys bytes (turn names classes Close rest)
   unfolding turn
-  close_done r n q e = bracketed r n (λ m. m - 1) q e (omega arith)
+  close_done n e = bracketed n (λ m. m - 1) e (omega arith)
 
   pub other_done : Turned s s keys bytes keys bytes (turn names classes Other rest)
   unfolding turn

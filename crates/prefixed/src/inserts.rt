@@ -12,11 +12,7 @@ fn open_gap(bytes: &mut [u8], from: usize, to: usize)
     requires { (from ≤ to) × (to + 8 ≤ length bytes.old) }
     ensures { bytes.new ≡ opened from to bytes.old }
 {
-    let mut i = to;
-    while from < i {
-        i = i - 1;
-        bytes[i + 8] = bytes[i];
-    }
+    bytes.copy_within(from..to, from + 8);
 }
 
 // Writes a record: kind, pattern, two zero bytes, name set.

@@ -7,7 +7,8 @@ ghost use Rattle.prefixed.specs.Walking.{LeftOperand, Safe, leveled, Turned, Ord
 
 use crate::inserts::insert;
 use atoms::atom_ahead;
-use ordering::{Ahead, Mark, mark_of};
+use kinds::END;
+use ordering::{Mark, mark_of};
 use words::next_word;
 
 // Where the walk stands: how many brackets are open, the first record of the guard that is read, and how many records there are.
@@ -23,15 +24,13 @@ fn operand_start(keys: &[usize], first: usize, count: usize, key: usize) -> usiz
     requires { (first ≤ count) × (count ≤ length keys.now) }
     ensures { LeftOperand keys.now first count key result }
 {
-    let mut i = count;
-    while first < i {
-        let x = keys[i - 1];
+    for i in (first..count).rev() {
+        let x = keys[i];
         if !((x == 0) | (key <= x)) {
-            return i;
+            return i + 1;
         }
-        i = i - 1;
     }
-    i
+    first
 }
 
 // One record more, before the record at a place, and its key behind all keys; nothing where a table is full.
@@ -48,8 +47,6 @@ fn put_record(
     requires { Safe stand keys.old bytes.old × (at ≤ stand.count) }
     ensures { Turned stand result keys.old bytes.old keys.new bytes.new (put (stand.count - at) key (atom_record kind pattern set)) }
 {
-    let level = stand.level;
-    let first = stand.first;
     let count = stand.count;
     if keys.len() <= count {
         return stand;
@@ -60,9 +57,8 @@ fn put_record(
     insert(bytes, at, count, kind, pattern, set);
     keys[count] = key;
     Stand {
-        level: level,
-        first: first,
         count: count + 1,
+        ..stand
     }
 }
 
@@ -71,11 +67,8 @@ fn put_operator(stand: Stand, kind: u8, rank: usize, keys: &mut [usize], bytes: 
     requires { Safe stand keys.old bytes.old × (stand.level < 9223372036854775807) × (rank ≤ 2) }
     ensures { Turned stand result keys.old bytes.old keys.new bytes.new (with_operator kind rank) }
 {
-    let level = stand.level;
-    let first = stand.first;
-    let count = stand.count;
-    let key = level * 2 + rank;
-    let at = operand_start(keys, first, count, key);
+    let key = stand.level * 2 + rank;
+    let at = operand_start(keys, stand.first, stand.count, key);
     put_record(stand, at, key, kind, 0, 0, keys, bytes)
 }
 
@@ -93,32 +86,9 @@ fn put_atom(
     requires { Safe stand keys.old bytes.old × (kind < 255) }
     ensures { Turned stand result keys.old bytes.old keys.new bytes.new (with_atom (atom_ahead (records_in 32 names.now) (records_in 36 classes.now) kind (tokens_from text.now at))) }
 {
-    let count = stand.count;
-    let ahead = atom_ahead(text, at, kind, names, classes);
-    match ahead {
-        Ahead::Atom(k, p, s) => put_record(stand, count, 0, k, p, s, keys, bytes),
-        Ahead::Nothing => stand,
-    }
-}
-
-// One bracket fewer is open; none where none was.
-fn lowered(level: usize) -> usize
-    ensures { result ≡ level - 1 }
-{
-    if level == 0 {
-        return 0;
-    }
-    level - 1
-}
-
-// The same stand with another number of open brackets.
-fn at_level(stand: Stand, level: usize) -> Stand
-    ensures { result ≡ leveled stand level }
-{
-    Stand {
-        level: level,
-        first: stand.first,
-        count: stand.count,
+    match atom_ahead(text, at, kind, names, classes) {
+        Some((k, p, s)) => put_record(stand, stand.count, 0, k, p, s, keys, bytes),
+        None => stand,
     }
 }
 
@@ -142,15 +112,20 @@ fn turn_at(
         Mark::Any => put_atom(text, at, 0, names, classes, stand, keys, bytes),
         Mark::All => put_atom(text, at, 2, names, classes, stand, keys, bytes),
         Mark::Edge => Stand {
-            level: level,
             first: count,
-            count: count,
+            ..stand
         },
         Mark::And => put_operator(stand, 4, 2, keys, bytes),
         Mark::Or => put_operator(stand, 5, 1, keys, bytes),
         Mark::Not => put_record(stand, count, level * 2 + 2, 6, 0, 0, keys, bytes),
-        Mark::Open => at_level(stand, level + 1),
-        Mark::Close => at_level(stand, lowered(level)),
+        Mark::Open => Stand {
+            level: level + 1,
+            ..stand
+        },
+        Mark::Close => Stand {
+            level: level.saturating_sub(1),
+            ..stand
+        },
         Mark::Other => stand,
     }
 }
@@ -170,7 +145,7 @@ pub fn order_guards(text: &[u8], names: &[u8], classes: &[u8], bytes: &mut [u8])
         let word = next_word(text, at);
         let kind = word.kind;
         let end = word.end;
-        if kind == 26 {
+        if kind == END {
             return stand.count;
         }
         at = end;

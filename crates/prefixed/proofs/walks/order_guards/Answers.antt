@@ -9,8 +9,8 @@ use Rattle.prefixed.proofs.walks.order_guards.Goals as goal
 pub loop-keys-init : goal.loop-keys-init
 loop-keys-init c = underway_first _ _ _ _ _ (search rules)
 
-pub returns-then-kind-eq26 : goal.returns-then-kind-eq26
-returns-then-kind-eq26 c = underway_last _ _ _ _ _ _ _ _ _ _ _ c.loop-keys.invariant c.next_word-word.ensures c.if-kind-eq26.true
+pub returns-then-kind-eq-END : goal.returns-then-kind-eq-END
+returns-then-kind-eq-END c = underway_last _ _ _ _ _ _ _ _ _ _ _ c.loop-keys.invariant c.next_word-word.ensures c.if-kind-eq-END.true
 
 pub slice_bounds-turn_at-end : goal.slice_bounds-turn_at-end
 slice_bounds-turn_at-end c = sym c.loop-keys.invariant.held
@@ -19,15 +19,15 @@ pub turn_at-stand-requires : goal.turn_at-stand-requires
 turn_at-stand-requires c =
     let g = c.well_formed.0.1 in (
       c.loop-keys.invariant.safe,
-      underway_low _ _ _ _ _ _ _ _ _ _ _ c.loop-keys.invariant c.next_word-word.ensures c.if-kind-eq26.false (omega arith),
+      underway_low _ _ _ _ _ _ _ _ _ _ _ c.loop-keys.invariant c.next_word-word.ensures c.if-kind-eq-END.false (omega arith),
     )
 
 pub loop-keys-smaller : goal.loop-keys-smaller
-loop-keys-smaller c = underway_less _ _ _ _ _ _ _ _ _ _ _ c.loop-keys.invariant c.next_word-word.ensures c.if-kind-eq26.false
+loop-keys-smaller c = underway_less _ _ _ _ _ _ _ _ _ _ _ c.loop-keys.invariant c.next_word-word.ensures c.if-kind-eq-END.false
 
 pub loop-keys-preserved : goal.loop-keys-preserved
 loop-keys-preserved c =
-    underway_more _ _ _ _ _ _ _ _ _ _ _ c.loop-keys.invariant c.next_word-word.ensures _ _ _ _ c.if-kind-eq26.false c.mark_of.ensures
+    underway_more _ _ _ _ _ _ _ _ _ _ _ c.loop-keys.invariant c.next_word-word.ensures _ _ _ _ c.if-kind-eq-END.false c.mark_of.ensures
     (search rules)
     (search rules)
     c.turn_at-stand.ensures

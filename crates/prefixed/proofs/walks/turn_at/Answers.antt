@@ -26,12 +26,12 @@ returns-in-Not c = not_turn _ _ _ _ c.in-Not.is c.put_record.ensures
 pub returns-in-Open : goal.returns-in-Open
 returns-in-Open c =
     let p = c.requires.0 in
-    by_mark _ _ _ _ _ c.in-Open.is (open_done _ _ _ _ _ _ p _ c.at_level.ensures)
+    by_mark _ _ _ _ _ c.in-Open.is (open_done _ _ _ _ _ _ p)
 
 pub returns-in-Close : goal.returns-in-Close
 returns-in-Close c =
     let p = c.requires.0 in
-    by_mark _ _ _ _ _ c.in-Close.is (close_done _ _ _ _ _ _ p _ _ c.at_level-in-Close.ensures c.lowered.ensures)
+    by_mark _ _ _ _ _ c.in-Close.is (close_done _ _ _ _ _ _ p _ c.saturating_sub.ensures)
 
 pub returns-in-Other : goal.returns-in-Other
 returns-in-Other c =
