@@ -1,7 +1,6 @@
 -- Laws for the judge's checks: the table of bodies, where the bodies lie, and the rules in their order.
 -- Assumes nothing.
-use Prim.Native.Nat.{ℕ, zero, suc, ◌+◌, ◌/◌, ◌%◌, ◌<◌, ◌≤◌}
-use native.Mathlib.Omega.{arith}
+use Prim.Native.Nat.{ℕ, suc, ◌+◌, ◌<◌, ◌≤◌}
 use mathlib.Core.Path.{◌≡◌, refl, sym, ap, ◌∙◌}
 use mathlib.Core.Bool.{Bool, true, false, ◌&&◌, ◌||◌, not}
 use mathlib.Core.List.{List, [], ◌∷◌}
@@ -10,70 +9,31 @@ use lib.Dec.{eqb, ltb, leb}
 use lib.ListN.{length}
 use borrow.Author.Tests.{eq-eqb, ne_eqb, not-true, not-false, lt-ltb, le-ltb, lt-leb, le-leb}
 use Rattle.model.specs.Words.{each}
-use Rattle.model.proofs.Words.{clash, lt_or_le, each_broken}
-use Rattle.sheet.specs.Contents.{record_bytes, fewest, most, start, size, count_right, length_right, bodies_follow, counts_in_range, contents_right, Bodies}
+use Rattle.model.proofs.Words.{lt_or_le}
+use Rattle.sheet.specs.Contents.{start, size, length_right, bodies_follow, counts_in_range, contents_right, Bodies}
 use Rattle.records.specs.Bytes.{in_fours, in_eights}
 use Rattle.sheet.specs.Rules.{checked, refusal_in, refusal}
 use Rattle.bodies.specs.BodyRules.{classes_right, counts_right, records_right, guards_right, targets_right, actions_right, statements_right}
 use Rattle.sheet.specs.Verdict.{verdict}
 
--- every record has some bytes
-pub some_bytes : (k : ℕ) → k < 6 → 0 < record_bytes k
-some_bytes zero l = omega arith
-some_bytes (suc zero) l = omega arith
-some_bytes (suc (suc zero)) l = omega arith
-some_bytes (suc (suc (suc zero))) l = omega arith
-some_bytes (suc (suc (suc (suc zero)))) l = omega arith
-some_bytes (suc (suc (suc (suc (suc zero))))) l = omega arith
-some_bytes (suc (suc (suc (suc (suc (suc k)))))) l = absurd (omega arith)
-
--- a body's count, of the table that the code has and of the length that it reads
-pub count_told : (b : List ℕ) (k bytes least largest n : ℕ) → bytes ≡ record_bytes k → least ≡ fewest k → largest ≡ most k → n ≡ size b k
-    → (eqb (n % bytes) 0 && (leb least (n / bytes) && leb (n / bytes) largest)) ≡ count_right b k
-count_told b k bytes least largest n eb el em en = rw (en, eb, el, em)
-
 -- the body behind body k starts where k ends
 abbrev pub follows : List ℕ → ℕ → Bool
 follows b k = eqb (start b (k + 1)) (start b k + size b k)
 
--- the two outer parts of three tests
-outer_wrong : (a m e : Bool) → (not a || not e) ≡ true → false ≡ (a && (m && e))
-outer_wrong false m e h = refl
-outer_wrong true m true h = absurd (clash (cc))
-outer_wrong true true false h = refl
-outer_wrong true false false h = refl
-
-outer_right : (a m e : Bool) → (not a || not e) ≡ false → m ≡ true → true ≡ (a && (m && e))
-outer_right true true true h t = refl
-outer_right true m false h t = absurd (clash (cc))
-outer_right false m e h t = absurd (clash (cc))
-outer_right true false true h t = absurd (clash (cc))
-
--- and the middle one
-middle_wrong : (a m e : Bool) → m ≡ false → false ≡ (a && (m && e))
-middle_wrong true m e h = rw h
-middle_wrong false m e h = refl
-
--- one step from body k to the next, as read
-module _ (b : List ℕ) (k : ℕ) {x y z : ℕ} (ex : x ≡ start b (k + 1)) (ey : y ≡ start b k) (ez : z ≡ size b k) where
-  pub follows_on : x ≡ y + z → follows b k ≡ true
-  follows_on h = eq-eqb (start b (k + 1)) (start b k + size b k) (cc)
-
-  pub follows_wrong : k < 5 → (x ≡ y + z → ⊥) → false ≡ bodies_follow b
+-- the first start is wrong, or some body is not followed by the next, or the last end decides
+module _ (b : List ℕ) where
+  pub start_wrong : {f : ℕ} → f ≡ start b 0 → (f ≡ 24 → ⊥) → eqb f 24 ≡ bodies_follow b
   unfolding bodies_follow
-  follows_wrong l h =
-      middle_wrong (eqb (start b 0) 24) (each 5 (follows b)) (eqb (start b 5 + size b 5) (length b))
-      (each_broken 5 k (follows b) l (ne_eqb (start b (k + 1)) (start b k + size b k) (λ e. h (cc))))
+  start_wrong {f} e h = rw (← e, ne_eqb f 24 h)
 
--- the first start and the last end, as read
-module _ (b : List ℕ) {f s n : ℕ} (ef : f ≡ start b 0) (es : s ≡ start b 5) (en : n ≡ size b 5) where
-  pub ends_wrong : (not (eqb f 24) || not (eqb (s + n) (length b))) ≡ true → false ≡ bodies_follow b
-  unfolding bodies_follow
-  ends_wrong h = outer_wrong (eqb (start b 0) 24) (each 5 (follows b)) (eqb (start b 5 + size b 5) (length b)) (rw (ef, es, en) at h)
+  module _ {f : ℕ} (e : f ≡ start b 0) (z : f ≡ 24) {m : Bool} (em : m ≡ each 5 (follows b)) where
+    pub follows_wrong : m ≡ false → m ≡ bodies_follow b
+    unfolding bodies_follow
+    follows_wrong h = rw (eq-eqb (start b 0) 24 (sym e ∙ z), ← em, h)
 
-  pub follow_through : (not (eqb f 24) || not (eqb (s + n) (length b))) ≡ false → each 5 (follows b) ≡ true → true ≡ bodies_follow b
-  unfolding bodies_follow
-  follow_through h t = outer_right (eqb (start b 0) 24) (each 5 (follows b)) (eqb (start b 5 + size b 5) (length b)) (rw (ef, es, en) at h) t
+    pub follows_told : m ≡ true → {s n : ℕ} → s ≡ start b 5 → n ≡ size b 5 → eqb (s + n) (length b) ≡ bodies_follow b
+    unfolding bodies_follow
+    follows_told h es en = rw (es, en, eq-eqb (start b 0) 24 (sym e ∙ z), ← em, h)
 
 -- the rules on the bodies from one on
 abbrev pub from_9 : Bodies → ℕ

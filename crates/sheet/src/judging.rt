@@ -59,14 +59,7 @@ fn count_ok(sheet: &[u8], k: usize) -> bool
 fn counts_in_range(sheet: &[u8]) -> bool
     ensures { result ≡ counts_in_range sheet.now }
 {
-    let mut k = 0;
-    while k < 6 {
-        if !count_ok(sheet, k) {
-            return false;
-        }
-        k = k + 1;
-    }
-    true
+    (0..6).all(|k| count_ok(sheet, k))
 }
 
 // The first body starts at byte 24, each next one where the one before ended, the last ends with the sheet.
@@ -74,17 +67,9 @@ fn bodies_follow(sheet: &[u8]) -> bool
     ensures { result ≡ bodies_follow sheet.now }
 {
     let end = start(sheet, 5) + size(sheet, 5);
-    if (start(sheet, 0) != 24) | (end != sheet.len()) {
-        return false;
-    }
-    let mut k = 0;
-    while k < 5 {
-        if start(sheet, k + 1) != start(sheet, k) + size(sheet, k) {
-            return false;
-        }
-        k = k + 1;
-    }
-    true
+    start(sheet, 0) == 24
+        && ((0..5).all(|k| start(sheet, k + 1) == start(sheet, k) + size(sheet, k))
+            && end == sheet.len())
 }
 
 // The places that the contents name.

@@ -1,21 +1,20 @@
--- The invariant: each body passed is followed by the next. The ends are tested before the loop.
+-- The first start and the last end are asked, and each body whether the next one follows.
 -- Assumes nothing.
+use mathlib.Core.Path.{refl}
 use borrow.Author.Rules.{rules}
-use Rattle.model.proofs.Words.{each_none, each_so_far, each_all}
-use Rattle.sheet.proofs.JudgeLaws.{ends_wrong, follows_wrong, follows_on, follow_through}
+use Rattle.bodies.proofs.Every.{each_from_all}
+use Rattle.sheet.proofs.JudgeLaws.{follows, start_wrong, follows_wrong, follows_told}
 use Rattle.sheet.proofs.judging.bodies_follow.Goals as goal
 
-pub returns-then-start-end : goal.returns-then-start-end
-returns-then-start-end c = ends_wrong _ c.start-2.ensures.0 c.start.ensures.0 c.size.ensures.0 c.if-start-end.true
+pub returns-else-start-eq24 : goal.returns-else-start-eq24
+returns-else-start-eq24 c = start_wrong _ c.start-2.ensures.0 c.if-start-eq24.false
 
-pub loop-k-init : goal.loop-k-init
-loop-k-init c = (search rules, each_none _)
+pub returns-else-all : goal.returns-else-all
+returns-else-all c =
+    let m = each_from_all _ (follows c.args.sheet.now) _ _ refl c.all.ensures.ran (λ x b q k. search rules) in
+    follows_wrong _ c.start-2.ensures.0 c.if-start-eq24.true m c.if-all.false
 
-pub returns-then-start-size : goal.returns-then-start-size
-returns-then-start-size c = follows_wrong _ _ c.start-in-loop-k.ensures.0 c.start-in-loop-k-2.ensures.0 c.size-in-loop-k.ensures.0 c.loop-k-test.true c.if-start-size.true
-
-pub loop-k-preserved : goal.loop-k-preserved
-loop-k-preserved c = (search rules, each_so_far _ _ c.loop-k.invariant.1 (follows_on c.args.sheet.now c.loop-k.k c.start-in-loop-k.ensures.0 c.start-in-loop-k-2.ensures.0 c.size-in-loop-k.ensures.0 c.if-start-size.false))
-
-pub returns : goal.returns
-returns c = follow_through _ c.start-2.ensures.0 c.start.ensures.0 c.size.ensures.0 c.if-start-end.false (each_all 5 _ _ c.loop-k.invariant.0 c.loop-k-test.false c.loop-k.invariant.1)
+pub returns-then-all : goal.returns-then-all
+returns-then-all c =
+    let m = each_from_all _ (follows c.args.sheet.now) _ _ refl c.all.ensures.ran (λ x b q k. search rules) in
+    follows_told _ c.start-2.ensures.0 c.if-start-eq24.true m c.if-all.true c.start.ensures.0 c.size.ensures.0
