@@ -76,13 +76,12 @@ module _ (b list : List ℕ) (q m : ℕ) (e e' : List ℕ) (counted : Handling) 
         let z : back_in n out' last ≡ out = back_all n out' last ∙ ap (λ (y : List ℕ). take n out' ++ y) (k ∙ is_rest ∙ from_all n out') ∙ take-append-drop n out' ∙ same in
         refused_behind all out rest last room rest_is x (back_in n out' last) (asked_behind f) z
 
-    pub given_told : (p : Phase) → answer ≡ Ok p → (front end : List ℕ) (h : Handling) → front ≡ take (n - 0) (back_in n out' last) → RunsCommand b list q m front end h
-        → CommandedSo all out (end ++ drop (n - 0) (back_in n out' last)) (Ok (h, p))
+    pub given_told : (p : Phase) → answer ≡ Ok p → (front end : List ℕ) (h : Handling) → front ≡ take n (back_in n out' last) → RunsCommand b list q m front end h
+        → CommandedSo all out (end ++ drop n (back_in n out' last)) (Ok (h, p))
     unfolding command_then_phase
     given_told p f front end h is_front R =
         let bytes = bytes_of_handling (command (class_of b) (children_of list) q m) in
         let k : length (take n out') ≡ n = omega (arith, length-take n out') in
-        let z : n - 0 ≡ n = omega arith in
-        let w : end ≡ bytes = R.written ∙ sets_all front bytes (omega (arith, own_count, ap length is_front, length-take (n - 0) (back_in n out' last), ap length (back_all n out' last), length-append (take n out') last)) in
-        given_behind all out rest last room rest_is h p (end ++ drop (n - 0) (back_in n out' last)) R.values_are (asked_behind f)
-        (rw z (ap (λ (x : List ℕ). end ++ x) (back_behind n out' last fits) ∙ ap (λ (x : List ℕ). x ++ last) w))
+        let w : end ≡ bytes = R.written ∙ sets_all front bytes (omega (arith, own_count, ap length is_front, length-take n (back_in n out' last), ap length (back_all n out' last), length-append (take n out') last)) in
+        given_behind all out rest last room rest_is h p (end ++ drop n (back_in n out' last)) R.values_are (asked_behind f)
+        (ap (λ (x : List ℕ). end ++ x) (back_behind n out' last fits) ∙ ap (λ (x : List ℕ). x ++ last) w)

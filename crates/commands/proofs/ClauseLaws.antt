@@ -2,17 +2,17 @@
 -- Assumes nothing.
 use Prim.Native.Nat.{ℕ, zero, suc, ◌+◌, ◌<◌, ◌≤◌}
 use native.Mathlib.Omega.{arith}
-use mathlib.Core.Path.{◌≡◌, refl, sym, ◌∙◌}
+use mathlib.Core.Path.{◌≡◌, refl, sym, ◌∙◌, ap}
 use mathlib.Core.Bool.{Bool, true, false}
 use mathlib.Core.List.{List}
-use mathlib.Core.Logic.{◌⊎◌, inl, inr}
-use mathlib.Core.Option.{none, some}
+use mathlib.Core.Option.{Option, none, some}
 use lib.Dec.{eqb}
 use borrow.Author.Tests.{eq-eqb, ne_eqb}
-use Rattle.model.specs.Words.{listed}
+use Rattle.std.specs.Prelude.{Option as Maybe, Some, None}
+use Rattle.model.specs.Words.{maybe, listed}
 use Rattle.model.specs.Tree.{Action}
 use Rattle.model.specs.Commands as Tree
-use Rattle.model.proofs.Words.{lt_or_le, below_next, least_found, least_not}
+use Rattle.model.proofs.Words.{clash, below_next, least_found, least_not}
 use Rattle.sheet.specs.Contents.{body}
 use Rattle.bodies.specs.Clauses.{first_action, action_count, action_command}
 use Rattle.commands.specs.Commands.{first_action_for}
@@ -32,21 +32,26 @@ module _ (b actions : List ℕ) (q m first n i : ℕ) (ea : actions ≡ body b 4
   before_it : (j : ℕ) → j < i → for_it j ≡ false
   before_it j l = rw (ea, ef) at (h j l)
 
-  pub search_ends : i ≡ n → n ≡ first_action_for b q m
+  pub search_ends : n ≤ i → None ≡ first_action_for b q m
   unfolding first_action_for
-  search_ends e = rw (least_not (action_count (body b 1) q) for_it (λ j l. before_it j (omega arith))) en
+  search_ends e = rw (least_not (action_count (body b 1) q) for_it (λ j l. before_it j (omega arith)))
 
-  pub search_finds : (x : ℕ) → (i ≡ n → ⊥) → i ≤ n → x ≡ action_command actions (first + i) → x ≡ m → i ≡ first_action_for b q m
+  pub search_finds : (x : ℕ) → i < n → x ≡ action_command actions (first + i) → x ≡ m → Some i ≡ first_action_for b q m
   unfolding first_action_for
-  search_finds x ne l ex em =
+  search_finds x l ex em =
       let t : action_command actions (first + i) ≡ m = sym ex ∙ em in
       let u : for_it i ≡ true = eq-eqb (action_command (body b 4) (first_action (body b 1) q + i)) m (rw (ea, ef) at t) in
-      let k : i < action_count (body b 1) q = below (lt_or_le i n) in
+      let k : i < action_count (body b 1) q = omega arith in
       rw (least_found (action_count (body b 1) q) for_it i k u before_it)
-    where
-      below : (i < n) ⊎ (n ≤ i) → i < action_count (body b 1) q
-      below (inl a) = omega arith
-      below (inr a) = absurd (ne (omega arith))
+
+-- what was found tells the smallest number that passes
+pub none_least : (o : Option ℕ) → maybe {B = Maybe ℕ} o (λ _. None) Some ≡ None → o ≡ none
+none_least none e = refl
+none_least (some k) e = absurd (clash (cc))
+
+pub some_least : (o : Option ℕ) (k : ℕ) → maybe o (λ _. None) Some ≡ Some k → o ≡ some k
+some_least none k e = absurd (clash (cc))
+some_least (some j) k e = ap some (cc)
 
 -- the clause for a command among those that are listed
 pub clause_none : (i n : ℕ) (g : ℕ → Action) (m : ℕ) → ((j a : ℕ) → j < n → a ≡ i + j → eqb (g a).command m ≡ false) → Tree.clause_for m (listed i n g) ≡ none

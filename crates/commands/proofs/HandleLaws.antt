@@ -10,7 +10,8 @@ use mathlib.Core.Option.{Option, some}
 use lib.Dec.{eqb}
 use lib.ListN.{length}
 use lib.Seq.{sets}
-use Rattle.model.specs.Words.{maybe, listed}
+use Rattle.std.specs.Prelude.{Some, None, unwrap_or}
+use Rattle.model.specs.Words.{maybe, listed, least}
 use Rattle.model.specs.Tree.{Child, Action, State, no_action}
 use Rattle.model.specs.Running.{run_part}
 use Rattle.model.specs.Node.{own_states, state_of, action_of}
@@ -20,7 +21,7 @@ use Rattle.model.specs.declared.OwnState.{OwnState}
 use Rattle.model.specs.declared.Handling.{Handling}
 use Rattle.model.specs.declared.Handling.TheVariants.{Ignored, Handled}
 use Rattle.model.proofs.CommandLaws.{left_within}
-use Rattle.model.proofs.Words.{lt_or_le, least_some, least_none, least_told}
+use Rattle.model.proofs.Words.{lt_or_le, least_some, least_none}
 use Rattle.sheet.specs.Contents.{body, bodies}
 use Rattle.bodies.specs.Clauses.{first_action, action_count, action_command}
 use Rattle.records.specs.Bytes.{in_fours}
@@ -30,15 +31,14 @@ use Rattle.sheet.proofs.Contents.{counted}
 use Rattle.sheet.proofs.Reading.{own_states_in, state_of_in, state_of_past, action_of_in}
 use Rattle.sheet.proofs.Sound.{bodies_in}
 use Rattle.sheet.proofs.Rules.{Right}
-use Rattle.running.specs.Running.{moved_as, RunsAction}
-use Rattle.running.specs.declared.Moved.{Moved}
+use Rattle.running.specs.Running.{Moved, moved_as, RunsAction}
 use Rattle.running.specs.declared.Ran.{Ran}
 use Rattle.bodies.proofs.CheckLaws.{past_count}
 use Rattle.running.proofs.ActionLaws.{state_inside}
 use Rattle.commands.specs.Handling.{bytes_of_handling, handling_values}
 use Rattle.commands.specs.Commands.{first_action_for, left_in, RunsCommand}
 use Rattle.commands.proofs.HandlingLaws.{left_told}
-use Rattle.commands.proofs.ClauseLaws.{clause_none, clause_found}
+use Rattle.commands.proofs.ClauseLaws.{none_least, some_least, clause_none, clause_found}
 
 -- action clause a of state q is the one for command m
 pub record Chosen (b : List ℕ) (q m a : ℕ) : Type 0 where
@@ -60,10 +60,10 @@ module _ (b : List ℕ) (right : Right b) (q m : ℕ) where
           ap (λ (x : State). x.actions) (state_of_past (bodies b) q l)
           ∙ ap (λ (n : ℕ). listed (first_action (body b 1) q) n (action_in (bodies b))) (sym (past_count (body b 1) 2 q (counted b right.contents).states_whole l))
 
-  pub ignored_told : (ks : List Child) (n hit : ℕ) → n ≡ action_count (body b 1) q → hit ≡ first_action_for b q m → hit ≡ n → Tree.command (class_of b) ks q m ≡ Tree.ignored q
+  pub ignored_told : (ks : List Child) → first_action_for b q m ≡ None → Tree.command (class_of b) ks q m ≡ Tree.ignored q
   unfolding Tree.command first_action_for bodies action_in
-  ignored_told ks n hit en eh e =
-      let none_is = (least_told (action_count (body b 1) q) own hit eh).0 (e ∙ en) in
+  ignored_told ks e =
+      let none_is = none_least (least (action_count (body b 1) q) own) e in
       rw (
         actions_listed,
         clause_none (first_action (body b 1) q) (action_count (body b 1) q) (action_in (bodies b)) m
@@ -79,16 +79,16 @@ module _ (b : List ℕ) (right : Right b) (q m : ℕ) where
       rw z (ap (Tree.clause_for m) actions_listed
       ∙ clause_found (first_action (body b 1) q) (action_count (body b 1) q) (action_in (bodies b)) m hit (first_action (body b 1) q + hit) l refl t (λ j c k x. rw x (h j k)))
 
-  pub chosen_told : (n hit : ℕ) → n ≡ action_count (body b 1) q → hit ≡ first_action_for b q m → (hit ≡ n → ⊥) → Chosen b q m hit
+  pub chosen_told : (hit : ℕ) → first_action_for b q m ≡ Some hit → Chosen b q m hit
   unfolding first_action_for Tree.command
-  chosen_told n hit en eh ne =
-      let w = (least_told (action_count (body b 1) q) own hit eh).1 (λ z. ne (z ∙ sym en)) in
-      let (l, t, h) = least_some (action_count (body b 1) q) own hit w in
+  chosen_told hit e =
+      let (l, t, h) = least_some (action_count (body b 1) q) own hit (some_least (least (action_count (body b 1) q) own) hit e) in
       record { there = l; handled = λ ks. rw (clause_told hit l t h) }
 
 -- the state after a move, or with none
-pub moved_told : (q : ℕ) {x y : Moved} → x ≡ y → maybe (moved_as x) (λ _. q) (λ t. t) ≡ maybe (moved_as y) (λ _. q) (λ t. t)
-moved_told q e = ap (λ (z : Moved). maybe (moved_as z) (λ _. q) (λ t. t)) e
+pub moved_told : (q : OwnState) (m : Moved) → maybe (moved_as m) (λ _. q.0) (λ t. t) ≡ (unwrap_or m q).0
+moved_told q None = refl
+moved_told q (Some t) = refl
 
 -- an ignored command writes nothing
 pub ignored_runs : (b list : List ℕ) (q : OwnState) (m : ℕ) (out : List ℕ) → Tree.command (class_of b) (children_of list) q.0 m ≡ Tree.ignored q.0

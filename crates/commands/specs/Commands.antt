@@ -1,6 +1,6 @@
 -- What the code that handles a command answers, and what it leaves in the lent buffer.
 -- Assumes nothing.
-use Rattle.std.specs.Prelude.{ℕ, ◌+◌, ◌≡◌, List, eqb}
+use Rattle.std.specs.Prelude.{ℕ, ◌+◌, ◌≡◌, List, Option, Some, None, eqb}
 use Rattle.std.proofs.lemmas.List.Edits.{sets}
 use Rattle.model.specs.Words.{maybe, least}
 use Rattle.model.specs.Commands as Tree
@@ -15,10 +15,9 @@ use Rattle.sheet.specs.Reading.{class_of}
 use Rattle.children.specs.ChildList.{children_of}
 use Rattle.commands.specs.Handling.{bytes_of_handling, handling_values, reply_commanded, commanded_values}
 
--- the number within state q of its action clause for a command; the number of its clauses where there is none
-unfoldable pub first_action_for : List ℕ → ℕ → ℕ → ℕ
-first_action_for b q m =
-    maybe (least (action_count (body b 1) q) (λ i. eqb (action_command (body b 4) (first_action (body b 1) q + i)) m)) (λ _. action_count (body b 1) q) (λ i. i)
+-- the number within state q of its action clause for a command, if there is one
+unfoldable pub first_action_for : List ℕ → ℕ → ℕ → Option ℕ
+first_action_for b q m = maybe (least (action_count (body b 1) q) (λ i. eqb (action_command (body b 4) (first_action (body b 1) q + i)) m)) (λ _. None) Some
 
 -- the state that a handling leaves, and the number of its own bytes
 abbrev pub left_in : Handling → OwnState

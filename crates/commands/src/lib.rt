@@ -14,28 +14,23 @@ use accepted::readers::{body_of, clauses_of};
 use bodies::clauses::{ACTION_CLAUSES, action_command};
 use model::{Handling, OwnState, Phase, Refusal};
 use phases::when_phase;
-use running::{Moved, run_action};
+use running::run_action;
 use sheet::judging::Places;
 
-// The number within state q of its action clause for a command; the number of its clauses where there is none.
-fn clause_for(sheet: &[u8], p: Places, q: OwnState, command: u8) -> usize
+// The number within state q of its action clause for a command, if there is one.
+fn clause_for(sheet: &[u8], p: Places, q: OwnState, command: u8) -> Option<usize>
     requires { Stands sheet.now p }
     ensures { result ≡ first_action_for sheet.now q.0 command }
 {
     let clauses = clauses_of(sheet, p, q, ACTION_CLAUSES);
     let first = clauses.first;
-    let n = clauses.count;
     let actions = body_of(sheet, p, ACTIONS);
-    let mut i = 0;
-    loop {
-        if i == n {
-            break n;
-        }
+    for i in 0..clauses.count {
         if action_command(actions, first + i) == command {
-            break i;
+            return Some(i);
         }
-        i = i + 1;
     }
+    None
 }
 
 // The command alone, with what it sends written from the buffer's front on, as far as it reaches.
@@ -51,19 +46,11 @@ fn run_command(
     requires { Stands sheet.now p × Runnable sets list.now }
     ensures { RunsCommand sheet.now list.now q.0 command out.old out.new result }
 {
-    let clauses = clauses_of(sheet, p, q, ACTION_CLAUSES);
-    let n = clauses.count;
-    let hit = clause_for(sheet, p, q, command);
-    if hit == n {
+    let Some(a) = clause_for(sheet, p, q, command) else {
         return Handling::Ignored(q);
-    }
-    let ran = run_action(sheet, p, list, sets, q, hit, out, 0);
-    let own = ran.at;
-    let moved = ran.moved;
-    match moved {
-        Moved::To(t) => Handling::Handled(t, own),
-        Moved::Not => Handling::Handled(q, own),
-    }
+    };
+    let ran = run_action(sheet, p, list, sets, q, a, out, 0);
+    Handling::Handled(ran.moved.unwrap_or(q), ran.at)
 }
 
 // The state that a handling leaves.
@@ -101,12 +88,12 @@ pub fn handle(
     requires q_bound { q.0 < in_fours (body sheet.now 1) }
     ensures { Handles sheet.now list.now q.0 command out.old out.new result }
 {
-    let counted = run_command(sheet, p, list, sets, q, command, &mut out[0..0]);
+    let counted = run_command(sheet, p, list, sets, q, command, &mut out[..0]);
     let own = own_bytes(counted);
     if out.len() < own {
         return Err(Refusal::Room);
     }
     let phase = when_phase(sheet, p, list, sets, left_by(counted), &mut out[own..])?;
-    let handling = run_command(sheet, p, list, sets, q, command, &mut out[0..own]);
+    let handling = run_command(sheet, p, list, sets, q, command, &mut out[..own]);
     Ok((handling, phase))
 }

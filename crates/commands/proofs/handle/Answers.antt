@@ -2,6 +2,7 @@
 -- Assumes nothing.
 -- the run that counts leaves the buffer as it was
 use mathlib.Core.Path.{refl, ap}
+use Rattle.std.proofs.lemmas.Result.{err_from_is_err_and}
 use Rattle.running.proofs.SendLaws.{none_before}
 use Rattle.commands.proofs.HandleLaws.{left_inside}
 use Rattle.commands.proofs.BehindLaws.{short_told, refused_told, given_told}
@@ -10,14 +11,16 @@ use Rattle.commands.proofs.handle.Goals as goal
 pub returns-then-out-own : goal.returns-then-out-own
 returns-then-out-own c = short_told _ _ _ _ _ _ _ c.run_command-counted.ensures _ _ (none_before c.run_command-counted.new.out _ c.run_command-counted.auto.out) _ c.own_bytes-own.ensures c.if-out-own.true
 
-pub when_phase-behind-requires-clause-stands : goal.when_phase-behind-requires-clause-stands
-when_phase-behind-requires-clause-stands c = c.requires.stands
+pub when_phase-requires-clause-stands : goal.when_phase-requires-clause-stands
+when_phase-requires-clause-stands c = c.requires.stands
 
-pub when_phase-behind-requires-clause-q_bound : goal.when_phase-behind-requires-clause-q_bound
-when_phase-behind-requires-clause-q_bound c = left_inside c.args.sheet.now _ _ _ c.requires.q_bound _ _ _ c.run_command-counted.ensures _ c.left_by.ensures
+pub when_phase-requires-clause-q_bound : goal.when_phase-requires-clause-q_bound
+when_phase-requires-clause-q_bound c = left_inside c.args.sheet.now _ _ _ c.requires.q_bound _ _ _ c.run_command-counted.ensures _ c.left_by.ensures
 
-pub returns-in-Refused : goal.returns-in-Refused
-returns-in-Refused c = refused_told _ _ _ _ _ _ _ c.run_command-counted.ensures _ _ (none_before c.run_command-counted.new.out _ c.run_command-counted.auto.out) _ c.own_bytes-own.ensures _ (ap (λ q. q.0) c.left_by.ensures) c.if-out-own.false _ _ refl _ c.when_phase-behind.ensures _ c.in-Refused.is
+pub returns-in_err-phase : goal.returns-in_err-phase
+returns-in_err-phase c =
+    let p = err_from_is_err_and c.from_residual.result c.from_residual.ensures.1 in
+    rw (p.1, p.2) (refused_told _ _ _ _ _ _ _ c.run_command-counted.ensures _ _ (none_before c.run_command-counted.new.out _ c.run_command-counted.auto.out) _ c.own_bytes-own.ensures _ (ap (λ q. q.0) c.left_by.ensures) c.if-out-own.false _ _ refl _ c.when_phase.ensures _ c.in_err-phase.was)
 
-pub returns-in-Given : goal.returns-in-Given
-returns-in-Given c = given_told _ _ _ _ _ _ _ c.run_command-counted.ensures _ _ (none_before c.run_command-counted.new.out _ c.run_command-counted.auto.out) _ c.own_bytes-own.ensures _ (ap (λ q. q.0) c.left_by.ensures) c.if-out-own.false _ _ refl _ c.when_phase-behind.ensures _ c.in-Given.is _ _ _ refl c.run_command-handling.ensures
+pub returns : goal.returns
+returns c = given_told _ _ _ _ _ _ _ c.run_command-counted.ensures _ _ (none_before c.run_command-counted.new.out _ c.run_command-counted.auto.out) _ c.own_bytes-own.ensures _ (ap (λ q. q.0) c.left_by.ensures) c.if-out-own.false _ _ refl _ c.when_phase.ensures _ c.in_ok-phase.was _ _ _ refl c.run_command-handling.ensures
