@@ -1,12 +1,14 @@
 -- Room for one more record: byte by byte, and what the records then are.
 -- Assumes nothing.
-use Prim.Native.Nat.{ℕ, zero, suc, ◌+◌, ◌-◌, ◌*◌, ◌≤◌}
+use Prim.Native.Nat.{ℕ, zero, suc, ◌+◌, ◌-◌, ◌*◌, ◌≤◌, ◌<◌, ◌/◌, ◌%◌, ◌^◌}
 use native.Mathlib.Omega.{arith}
 use mathlib.Core.Path.{◌≡◌, refl, sym, ◌∙◌, ap}
 use mathlib.Core.List.{List, [], ◌∷◌, ◌++◌, append_assoc}
 use lib.ListN.{length, take, drop, length-append, length-take, length-drop}
 use lib.Seq.{sets, sets-eq, take-take, take-nil, take-append-le, take_at, drop_at, length-take-le}
 use Rattle.std.specs.List.{copy_within}
+use Rattle.std.specs.Int.{to_le_bytes}
+use Rattle.std.proofs.Common.{w32}
 use Rattle.encoding.specs.Records.{Eight, bytes8, eights}
 use Rattle.encoding.proofs.From.{length_eights, drop_eights}
 use Rattle.ordering.specs.Ordering.{inserted}
@@ -19,6 +21,15 @@ opened_copied from to b h =
     let z : from + 8 + (to - from) ≡ to + 8 = omega arith in
     append_assoc (take (from + 8) b) (take (to - from) (drop from b)) (drop (from + 8 + (to - from)) b)
     ∙ ap (λ (n : ℕ). take (from + 8) b ++ (take (to - from) (drop from b) ++ drop n b)) z
+
+-- the bytes of a name set
+pub set_bytes : (n : ℕ) → n < 2 ^ 32 → to_le_bytes w32 n ≡ n % 65536 % 256 ∷ n % 65536 / 256 ∷ n / 65536 % 256 ∷ n / 65536 / 256 ∷ []
+set_bytes n h =
+    let a : n % 256 ≡ n % 65536 % 256 = omega arith in
+    let b : n / 256 % 256 ≡ n % 65536 / 256 = omega arith in
+    let c : n / 65536 % 256 ≡ n / 65536 % 256 = omega arith in
+    let d : n / 16777216 % 256 ≡ n / 65536 / 256 = omega arith in
+    λ j. a j ∷ b j ∷ c j ∷ d j ∷ []
 
 -- the record written there
 overwritten : (n : ℕ) (vs b ys : List ℕ) → n + length vs ≤ length b → sets (take (n + length vs) b ++ ys) n vs ≡ take n b ++ (vs ++ ys)

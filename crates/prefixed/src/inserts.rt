@@ -5,7 +5,7 @@ ghost use Rattle.encoding.specs.Records.{bytes8};
 ghost use Rattle.ordering.specs.Ordering.{atom_record};
 ghost use Rattle.prefixed.specs.Inserting.{opened, with_record};
 
-use pen::put_four;
+use pen::{put_bytes, put_four};
 
 // Moves the bytes from a place to another up by eight.
 fn open_gap(bytes: &mut [u8], from: usize, to: usize)
@@ -19,17 +19,8 @@ fn open_gap(bytes: &mut [u8], from: usize, to: usize)
 fn write_record(bytes: &mut [u8], at: usize, kind: u8, pattern: u8, set: u32)
     ensures { bytes.new ≡ sets bytes.old at (bytes8 (atom_record kind pattern set) []) }
 {
-    let low = set % 65536;
-    let high = set / 65536;
     let next = put_four(bytes, at, kind, pattern, 0, 0);
-    put_four(
-        bytes,
-        next,
-        (low % 256) as u8,
-        (low / 256) as u8,
-        (high % 256) as u8,
-        (high / 256) as u8,
-    );
+    put_bytes(bytes, next, &set.to_le_bytes());
 }
 
 // One record more, before the record at a place, where there are so many.
