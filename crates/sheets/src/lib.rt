@@ -1,7 +1,7 @@
 // The sheet of a text, written body by body into a lent buffer.
 #![tactic(auto)]
 
-ghost use Rattle.std.specs.Prelude.{◌≡◌};
+ghost use Rattle.std.specs.Prelude.{◌≡◌, ◌≤◌};
 ghost use Rattle.sheets.specs.Sheets.{body_size, states_size, body_sizes, sheet_size, table_size, WritesSheet};
 
 use clauses::{write_actions, write_states};
@@ -11,25 +11,19 @@ use sizes::Sizes;
 use statements::write_statements;
 use whens::write_whens;
 
-// The bytes of a body of so many records of 4 bytes.
-fn fours(count: usize) -> u16
-    ensures { result ≡ body_size count 4 }
+// The bytes of a body of so many records of that many bytes.
+fn body_size(count: usize, bytes: usize) -> u16
+    requires { bytes ≤ 8 }
+    ensures { result ≡ body_size count bytes }
 {
-    (count % 8192 * 4) as u16
-}
-
-// The same of 8 bytes.
-fn eights(count: usize) -> u16
-    ensures { result ≡ body_size count 8 }
-{
-    (count % 8192 * 8) as u16
+    (count % 8192 * bytes) as u16
 }
 
 // The bytes of so many state records: how long one is stands here alone.
 fn state_records(count: usize) -> u16
     ensures { result ≡ states_size count }
 {
-    fours(count)
+    body_size(count, 4)
 }
 
 // The lengths of the six bodies.
@@ -37,12 +31,12 @@ fn body_sizes(classes: usize, n: Sizes) -> [u16; 6]
     ensures { result ≡ body_sizes classes n }
 {
     [
-        fours(classes),
+        body_size(classes, 4),
         state_records(n.states),
-        fours(n.whens),
-        eights(n.guards),
-        fours(n.actions),
-        eights(n.statements),
+        body_size(n.whens, 4),
+        body_size(n.guards, 8),
+        body_size(n.actions, 4),
+        body_size(n.statements, 8),
     ]
 }
 

@@ -4,4 +4,5 @@ use mathlib.Core.List.{[], ◌∷◌}
 use Rattle.sheets.proofs.body_sizes.Goals as goal
 
 pub returns : goal.returns
-returns c = λ i. c.fours.ensures i ∷ c.state_records.ensures i ∷ c.fours-2.ensures i ∷ c.eights.ensures i ∷ c.fours-3.ensures i ∷ c.eights-2.ensures i ∷ []
+returns c =
+    λ i. c.body_size.ensures i ∷ c.state_records.ensures i ∷ c.body_size-2.ensures i ∷ c.body_size-3.ensures i ∷ c.body_size-4.ensures i ∷ c.body_size-5.ensures i ∷ []
