@@ -27,22 +27,21 @@ use Rattle.writings.specs.Layout.{Named, class_text}
 use Rattle.writings.specs.Missing.{names_right}
 use Rattle.writings.specs.Writings.{named, guards_few, reply_text, text_values}
 use Rattle.classfile.specs.Fields.{Next}
+use Rattle.classfile.specs.declared.fields.Kind.{Kind}
+use Rattle.classfile.specs.declared.fields.Kind.TheVariants.{FileEnd}
 use Rattle.classfile.specs.Heads as H
 use Rattle.classfile.specs.Heads.{stretch, head_of}
-use Rattle.classfile.specs.Reads.{Fits, HeadRead, rooms, shown}
+use Rattle.classfile.specs.Reads.{Answer, head_answer, bad_line, Fits, HeadRead, rooms, shown}
 use Rattle.classfile.specs.declared.parts.Fault.{Fault}
 use Rattle.classfile.specs.declared.heads.Used.{Used}
-use Rattle.classfile.specs.declared.heads.HeadAnswer.{HeadAnswer}
-use Rattle.classfile.specs.declared.heads.HeadAnswer.TheVariants as A
 use Rattle.classfile.proofs.GivenLaws.{head_read, head_wrong, full_room}
 use Rattle.classfile.proofs.PartLaws.{counted}
 use Rattle.saying.specs.declared.Why.{Why}
-use Rattle.writeclass.specs.Made.{text_reply, Replied, headed, one_class, text_file, second_file, opened, first_file, class_file, Inside, Prints}
-use Rattle.writeclass.specs.declared.converting.Outcome.{Outcome}
-use Rattle.writeclass.specs.declared.converting.Outcome.TheVariants as O
+use Rattle.writeclass.specs.Made.{Outcome, made, text_reply, Replied, headed, one_class, text_file, second_file, opened, first_file, class_file, Inside, Prints}
+use Rattle.writeclass.specs.declared.converting.ClassFile.{ClassFile}
 
 -- a field that is not the end of the file moves on
-pub moved : (file : List ℕ) (at kind start end : ℕ) → Next file at kind start end → (kind ≡ 2 → ⊥) → length file - end < length file - at
+pub moved : (file : List ℕ) (at : ℕ) (kind : Kind) (start end : ℕ) → Next file at kind start end → (kind ≡ FileEnd → ⊥) → length file - end < length file - at
 moved file at kind start end n x = omega (arith, n.onward, n.moves x, n.inside)
 
 -- a head of so many bytes, from a place of the file on, ends inside it
@@ -50,7 +49,7 @@ pub head_ends : (file : List ℕ) (from size : ℕ) → from ≤ length file →
 head_ends file from size l m = omega (arith, length-take (length file - from) (drop from file), length-drop from file)
 
 -- nothing is printed
-pub nothing : (file want text : List ℕ) (why : Why) → want ≡ [] → Prints file want (O.Refused why) text
+pub nothing : (file want text : List ℕ) (why : Why) → want ≡ [] → Prints file want (Err why) text
 nothing file want text why e = record { inside = tt; prints = sym e }
 
 module _ (b : List ℕ) (n : Named) (out : List ℕ) where
@@ -91,11 +90,11 @@ sized b n out = sized_check out (eqb (refusal b) 0) (refusal b) (λ _. reply_tex
 
 module _ (file out : List ℕ) (n : Named) (from start : ℕ) (r : WriteAnswer) (after : List ℕ) (h : Replied (stretch file start (length file)) n out r after) where
   -- the text was written
-  pub text_written : (size : ℕ) → r ≡ Ok size → from ≤ start → start ≤ length file → Prints file (text_file file out n from start) (O.Text from start size) after
+  pub text_written : (size : ℕ) → r ≡ Ok size → from ≤ start → start ≤ length file → Prints file (text_file file out n from start) (made from start size) after
   unfolding text_file
   text_written size e l m = go (text_reply (stretch file start (length file)) n out) (sized (stretch file start (length file)) n out) (subst (λ (w : WriteAnswer). Answered text_values (text_reply (stretch file start (length file)) n out) out (write_numbers w) after) e h)
     where
-      go : (reply : Reply ℕ) → Sized out reply → Answered text_values reply out (0 ∷ size ∷ []) after → Prints file (headed (stretch file from start) reply) (O.Text from start size) after
+      go : (reply : Reply ℕ) → Sized out reply → Answered text_values reply out (0 ∷ size ∷ []) after → Prints file (headed (stretch file from start) reply) (made from start size) after
       go (refuse x) s a = absurd (clash (cc a.numbers_are))
       go (give v text) (p, q) a =
           let k : size ≡ length text = (let z : size ≡ v = cc a.numbers_are in z ∙ p) in
@@ -104,7 +103,7 @@ module _ (file out : List ℕ) (n : Named) (from start : ℕ) (r : WriteAnswer) 
           record { inside = (l, m, omega arith); prints = ap (λ (x : List ℕ). stretch file from start ++ x) t }
 
   -- it was not
-  pub text_refused : (x : Refusal) → r ≡ Err x → (why : Why) → Prints file (text_file file out n from start) (O.Refused why) after
+  pub text_refused : (x : Refusal) → r ≡ Err x → (why : Why) → Prints file (text_file file out n from start) (Err why) after
   unfolding text_file
   text_refused x e why = nothing file (text_file file out n from start) after why (go (text_reply (stretch file start (length file)) n out) (subst (λ (w : WriteAnswer). Answered text_values (text_reply (stretch file start (length file)) n out) out (write_numbers w) after) e h))
     where
@@ -113,31 +112,31 @@ module _ (file out : List ℕ) (n : Named) (from start : ℕ) (r : WriteAnswer) 
       go (give v text) a = absurd (clash (cc a.numbers_are))
 
 -- a head that is read or not, with these buffers before and after it
-module _ (part n c k : List ℕ) (r : HeadAnswer) (n' c' k' : List ℕ) (h : HeadRead part n c k r n' c' k') (file out : List ℕ) where
+module _ (part n c k : List ℕ) (r : Answer) (n' c' k' : List ℕ) (h : HeadRead part n c k r n' c' k') (file out : List ℕ) where
   -- the second one
   module _ (own_name own_states : List ℕ) (from : ℕ) where
-    pub second_read : (u : Used) (size : ℕ) → r ≡ A.Read u size → (o : Outcome) (after : List ℕ)
+    pub second_read : (u : Used) (size : ℕ) → r ≡ head_answer u size → (o : Outcome) (after : List ℕ)
         → Prints file (text_file file out (named own_name own_states (take u.names n') (take u.commands c') (take u.classes k')) from (from + size)) o after
         → Prints file (second_file file out own_name own_states from (head_of part (rooms n c k))) o after
     unfolding second_file
     second_read u size e o after p =
         subst (λ (w : H.Outcome). Prints file (second_file file out own_name own_states from w) o after) (sym (head_read part n c k r n' c' k' h u size e)) p
 
-    pub second_wrong : (x : Fault) (start end : ℕ) → r ≡ A.Bad x start end → (why : Why) (text : List ℕ)
-        → Prints file (second_file file out own_name own_states from (head_of part (rooms n c k))) (O.Refused why) text
+    pub second_wrong : (x : Fault) (start end : ℕ) → r ≡ bad_line x start end → (why : Why) (text : List ℕ)
+        → Prints file (second_file file out own_name own_states from (head_of part (rooms n c k))) (Err why) text
     unfolding second_file
     second_wrong x start end e why text =
         let (l, w) = head_wrong part n c k r n' c' k' h x start end e in
         nothing file (second_file file out own_name own_states from (head_of part (rooms n c k))) text why (ap (second_file file out own_name own_states from) w)
 
   -- the first one
-  pub first_read : (u : Used) (from : ℕ) → r ≡ A.Read u from → (o : Outcome) (after : List ℕ)
+  pub first_read : (u : Used) (from : ℕ) → r ≡ head_answer u from → (o : Outcome) (after : List ℕ)
       → Prints file (opened file out (shown u n' c' k') from) o after → Prints file (first_file file out (head_of part (rooms n c k))) o after
   unfolding first_file
   first_read u from e o after p = subst (λ (w : H.Outcome). Prints file (first_file file out w) o after) (sym (head_read part n c k r n' c' k' h u from e)) p
 
-  pub first_wrong : (x : Fault) (start end : ℕ) → r ≡ A.Bad x start end → (why : Why) (text : List ℕ)
-      → Prints file (first_file file out (head_of part (rooms n c k))) (O.Refused why) text
+  pub first_wrong : (x : Fault) (start end : ℕ) → r ≡ bad_line x start end → (why : Why) (text : List ℕ)
+      → Prints file (first_file file out (head_of part (rooms n c k))) (Err why) text
   unfolding first_file
   first_wrong x start end e why text =
       let (l, w) = head_wrong part n c k r n' c' k' h x start end e in
@@ -152,7 +151,7 @@ module _ (file out n c k : List ℕ) (u : Used) (from : ℕ) (fits : Fits u n c 
   lengths : one_class (length (take u.classes k)) (length (take u.commands c)) ≡ one_class u.classes u.commands
   lengths = rw (← counted k u.classes fits.classes, ← counted c u.commands fits.commands)
 
-  pub not_own : one_class u.classes u.commands ≡ false → (why : Why) (text : List ℕ) → Prints file (opened file out (shown u n c k) from) (O.Refused why) text
+  pub not_own : one_class u.classes u.commands ≡ false → (why : Why) (text : List ℕ) → Prints file (opened file out (shown u n c k) from) (Err why) text
   unfolding opened
   not_own e why text = nothing file (opened file out (shown u n c k) from) text why (rw (lengths, e))
 
@@ -165,7 +164,7 @@ module _ (file out n c k : List ℕ) (u : Used) (from : ℕ) (fits : Fits u n c 
       rw (lengths, e, take-take 32 u.classes k (omega arith), ← full_room) p
 
 -- a file that is too long, and one that is not
-pub too_long : (file out : List ℕ) → 262144 < length file → (why : Why) (text : List ℕ) → Prints file (class_file file out) (O.Refused why) text
+pub too_long : (file out : List ℕ) → 262144 < length file → (why : Why) (text : List ℕ) → Prints file (class_file file out) (Err why) text
 unfolding class_file
 too_long file out l why text = nothing file (class_file file out) text why (rw (lt-ltb 262144 (length file) l))
 
@@ -175,5 +174,5 @@ unfolding class_file
 converted file out l o after p = rw (le-ltb 262144 (length file) l, ← full_room) p
 
 -- what is printed is there
-pub text_inside : (file text : List ℕ) (o : Outcome) → Inside file o text → (from to size : ℕ) → o ≡ O.Text from to size → (from ≤ to) × (to ≤ length file) × (size ≤ length text)
-text_inside file text o i from to size e = rw e at i
+pub text_inside : (file text : List ℕ) (o : Outcome) → Inside file o text → (m : ClassFile) → o ≡ Ok m → (m.from ≤ m.to) × (m.to ≤ length file) × (m.length ≤ length text)
+text_inside file text o i m e = rw e at i

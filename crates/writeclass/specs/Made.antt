@@ -1,7 +1,7 @@
 -- What the program prints of two heads and a class sheet: the second head as it stands, and the text of the sheet's class. The class's own
 -- name and states are those of the first head, the lists are those of the second; nothing is printed where something is refused.
 -- Assumes nothing.
-use Rattle.std.specs.Prelude.{ℕ, ◌+◌, ◌≤◌, ◌≡◌, Bool, ◌&&◌, List, [], ◌++◌, eqb, ltb, length, take}
+use Rattle.std.specs.Prelude.{ℕ, Result, Ok, Err, ◌+◌, ◌≤◌, ◌≡◌, Bool, ◌&&◌, List, [], ◌++◌, eqb, ltb, length, take}
 use Rattle.model.specs.Words.{choose}
 use Rattle.model.specs.Answers.{write_numbers, WriteAnswer}
 use Rattle.model.specs.Replies.{Reply, refuse, give, Answered}
@@ -11,8 +11,8 @@ use Rattle.writings.specs.Layout.{Named}
 use Rattle.writings.specs.Writings.{named, reply_text, text_values}
 use Rattle.classfile.specs.Heads as H
 use Rattle.classfile.specs.Heads.{stretch, head_of, room}
-use Rattle.writeclass.specs.declared.converting.Outcome.{Outcome}
-use Rattle.writeclass.specs.declared.converting.Outcome.TheVariants as O
+use Rattle.saying.specs.declared.Why.{Why}
+use Rattle.writeclass.specs.declared.converting.ClassFile.{ClassFile}
 
 -- the reply to a sheet with these names, where the text has this room: 1 to 9, 17, 19, 15, or the text
 unfoldable pub text_reply : List ℕ → Named → List ℕ → Reply ℕ
@@ -55,15 +55,22 @@ module _ (file out : List ℕ) where
 unfoldable pub class_file : List ℕ → List ℕ → List ℕ
 class_file file out = choose (ltb 262144 (length file)) (λ _. []) (λ _. first_file file out (head_of file room))
 
+-- what comes of a file: which bytes of it, and how many bytes of the text; or why there are none
+abbrev pub Outcome : Type 0
+Outcome = Result ClassFile Why
+
+abbrev pub made : ℕ → ℕ → ℕ → Outcome
+made from to size = Ok (record { from = from; to = to; length = size })
+
 -- what is printed of an outcome: bytes of the file, and bytes of the text
 abbrev pub printed : List ℕ → Outcome → List ℕ → List ℕ
-printed file (O.Text from to size) text = stretch file from to ++ take size text
-printed file (O.Refused why) text = []
+printed file (Ok m) text = stretch file m.from m.to ++ take m.length text
+printed file (Err why) text = []
 
 -- they are there
 abbrev pub Inside : List ℕ → Outcome → List ℕ → Type 0
-Inside file (O.Text from to size) text = (from ≤ to) × (to ≤ length file) × (size ≤ length text)
-Inside file (O.Refused why) text = Unit {0}
+Inside file (Ok m) text = (m.from ≤ m.to) × (m.to ≤ length file) × (m.length ≤ length text)
+Inside file (Err why) text = Unit {0}
 
 pub record Prints (file want : List ℕ) (r : Outcome) (text : List ℕ) : Type 0 where
   pub inside : Inside file r text

@@ -6,7 +6,7 @@ ghost use Rattle.classfile.specs.Reads.{Fits, rooms, shown};
 ghost use Rattle.writeclass.specs.Made.{one_class, Replied, text_file, second_file, first_file, opened, Prints, Converted};
 
 use crate::reasons::{too_long, wrong_own, wrong_text};
-use classfile::heads::{CLASSES, COMMANDS, HeadAnswer, NAMES, Used, read_head};
+use classfile::heads::{CLASSES, COMMANDS, NAMES, Used, read_head};
 use model::Refusal;
 use saying::Why;
 use saying::heads::wrong_line;
@@ -17,11 +17,12 @@ use writing::write_text;
 // The longest file.
 const FILE: usize = 262144;
 
-// The bytes of the file from one place to another, which are the second head, and so many bytes of the text; or why there are none.
+// A class file: the bytes of the input from one place to another, which are the second head, and so many bytes of the text.
 #[derive(Clone, Copy)]
-pub enum Outcome {
-    Text(usize, usize, usize),
-    Refused(Why),
+pub struct ClassFile {
+    pub from: usize,
+    pub to: usize,
+    pub length: usize,
 }
 
 // The text of a sheet's class with these names. The sheet is judged first.
@@ -53,7 +54,7 @@ fn text_made(
     commands: &[u8],
     classes: &[u8],
     text: &mut [u8],
-) -> Outcome
+) -> Result<ClassFile, Why>
     requires { (from ≤ start) × (start ≤ length file.now) }
     ensures { Prints file.now (text_file file.now text.old (named own_name.now own_states.now names.now commands.now classes.now) from start) result text.new }
 {
@@ -67,9 +68,13 @@ fn text_made(
         text,
     );
     match answer {
-        Ok(size) => Outcome::Text(from, start, size),
-        Err(x) => Outcome::Refused(wrong_text(
-            u64::from(x),
+        Ok(size) => Ok(ClassFile {
+            from,
+            to: start,
+            length: size,
+        }),
+        Err(x) => Err(wrong_text(
+            x,
             file,
             from,
             &file[start..],
@@ -93,7 +98,7 @@ fn lists_made(
     commands: &[u8],
     classes: &[u8],
     text: &mut [u8],
-) -> Outcome
+) -> Result<ClassFile, Why>
     requires from_le_start { (from ≤ start) × (start ≤ length file.now) }
     requires fits { Fits used names.now commands.now classes.now }
     ensures { Prints file.now (text_file file.now text.old (named own_name.now own_states.now (take used.names names.now) (take used.commands commands.now) (take used.classes classes.now)) from start) result text.new }
@@ -124,19 +129,19 @@ fn second_made(
     commands: &mut [u8],
     classes: &mut [u8],
     text: &mut [u8],
-) -> Outcome
+) -> Result<ClassFile, Why>
     requires { from ≤ length file.now }
     ensures { Prints file.now (second_file file.now text.old own_name.now own_states.now from (head_of (stretch file.now from (length file.now)) (rooms names.old commands.old classes.old))) result text.new }
 {
     let answer = read_head(&file[from..], names, commands, classes);
     match answer {
-        HeadAnswer::Bad(fault, start, end) => Outcome::Refused(wrong_line(
+        Err(bad) => Err(wrong_line(
             file,
-            fault,
-            in_file(file, from, start),
-            in_file(file, from, end),
+            bad.fault,
+            in_file(file, from, bad.start),
+            in_file(file, from, bad.end),
         )),
-        HeadAnswer::Read(used, size) => lists_made(
+        Ok((used, size)) => lists_made(
             file,
             from,
             from + size,
@@ -155,7 +160,7 @@ fn second_made(
 fn is_own(used: Used) -> bool
     ensures { result ≡ one_class used.classes used.commands }
 {
-    (used.classes == 36) & (used.commands == 0)
+    used.classes == 36 && used.commands == 0
 }
 
 // The class file of what stands behind the first head, whose lists fill so much of their room.
@@ -167,13 +172,13 @@ fn own_made(
     commands: &[u8],
     classes: &[u8],
     text: &mut [u8],
-) -> Outcome
+) -> Result<ClassFile, Why>
     requires from_in_bounds { from ≤ length file.now }
     requires fits { Fits used names.now commands.now classes.now }
     ensures { Prints file.now (opened file.now text.old (shown used names.now commands.now classes.now) from) result text.new }
 {
     if !is_own(used) {
-        return Outcome::Refused(wrong_own(used));
+        return Err(wrong_own(used));
     }
     let n = used.names;
     let mut second_names = [0u8; NAMES];
@@ -198,22 +203,22 @@ fn first_made(
     commands: &mut [u8],
     classes: &mut [u8],
     text: &mut [u8],
-) -> Outcome
+) -> Result<ClassFile, Why>
     ensures { Prints file.now (first_file file.now text.old (head_of file.now (rooms names.old commands.old classes.old))) result text.new }
 {
     let answer = read_head(file, names, commands, classes);
     match answer {
-        HeadAnswer::Bad(fault, start, end) => Outcome::Refused(wrong_line(file, fault, start, end)),
-        HeadAnswer::Read(used, from) => own_made(file, from, used, names, commands, classes, text),
+        Err(bad) => Err(wrong_line(file, bad.fault, bad.start, bad.end)),
+        Ok((used, from)) => own_made(file, from, used, names, commands, classes, text),
     }
 }
 
 // The class file of two heads and a sheet.
-pub fn convert(file: &[u8], text: &mut [u8]) -> Outcome
+pub fn convert(file: &[u8], text: &mut [u8]) -> Result<ClassFile, Why>
     ensures { Converted file.now text.old result text.new }
 {
     if FILE < file.len() {
-        return Outcome::Refused(too_long());
+        return Err(too_long());
     }
     let mut names = [0u8; NAMES];
     let mut commands = [0u8; COMMANDS];

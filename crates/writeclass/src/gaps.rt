@@ -7,7 +7,7 @@ use accepted::held::{ACTIONS, GUARDS, STATEMENTS, WHENS};
 use accepted::readers::body_of;
 use bodies::clauses::{action_command, guard_place, name_set};
 use bodies::statements::{StatementRecord, statement_record};
-use classfile::fields::{FILE, Field, next_field};
+use classfile::fields::{Field, Kind, next_field};
 use kinds::is_same;
 use lists::{class_set, record_count};
 use model::ChildName;
@@ -22,150 +22,107 @@ use texts::writing::least;
 pub enum Gap {
     Command(usize),
     State(usize),
-    Nothing,
-}
-
-// There is none.
-fn is_nothing(gap: Gap) -> bool {
-    match gap {
-        Gap::Command(_) => false,
-        Gap::State(_) => false,
-        Gap::Nothing => true,
-    }
 }
 
 // A command, where so many have names.
-fn command_gap(command: usize, commands: usize) -> Gap {
+fn command_gap(command: usize, commands: usize) -> Option<Gap> {
     if commands <= command {
-        return Gap::Command(command);
+        return Some(Gap::Command(command));
     }
-    Gap::Nothing
+    None
 }
 
 // The first state of a set without a name, where so many have one.
-fn set_gap(set: u32, names: usize) -> Gap {
-    let mut i = names;
-    while i < 32 {
+fn set_gap(set: u32, names: usize) -> Option<Gap> {
+    for i in names..32 {
         if has_name(set, ChildName(i as u8)) {
-            return Gap::State(i);
+            return Some(Gap::State(i));
         }
-        i = i + 1;
     }
-    Gap::Nothing
+    None
 }
 
 // The same of the set of guard record i.
-fn record_gap(g: &[u8], i: usize, names: usize) -> Gap {
-    let record = guard_record(g, i);
-    match record {
+fn record_gap(g: &[u8], i: usize, names: usize) -> Option<Gap> {
+    match guard_record(g, i) {
         GuardRecord::Atom(_, _, set) => set_gap(set, names),
-        GuardRecord::Operator(_) => Gap::Nothing,
-        GuardRecord::Unknown => Gap::Nothing,
+        GuardRecord::Operator(_) | GuardRecord::Unknown => None,
     }
 }
 
 // The same of the guard records from one to another.
-fn records_gap(g: &[u8], from: usize, to: usize, names: usize) -> Gap {
-    let mut i = from;
-    while i < to {
-        let gap = record_gap(g, i, names);
-        if !is_nothing(gap) {
-            return gap;
-        }
-        i = i + 1;
-    }
-    Gap::Nothing
+fn records_gap(g: &[u8], from: usize, to: usize, names: usize) -> Option<Gap> {
+    (from..to).find_map(|i| record_gap(g, i, names))
 }
 
 // The same of the guard that begins at a place.
-fn guard_gap(g: &[u8], place: usize, names: usize) -> Gap {
-    let end = guard_end(g, place, 16);
-    match end {
-        Some(stop) => records_gap(g, place, stop, names),
-        None => Gap::Nothing,
-    }
+fn guard_gap(g: &[u8], place: usize, names: usize) -> Option<Gap> {
+    let stop = guard_end(g, place, 16)?;
+    records_gap(g, place, stop, names)
 }
 
 // The same of the when clauses, of which there are at most 256.
-fn whens_gap(whens: &[u8], g: &[u8], names: usize) -> Gap {
-    let n = least(in_fours(whens), 256);
-    let mut w = 0;
-    while w < n {
+fn whens_gap(whens: &[u8], g: &[u8], names: usize) -> Option<Gap> {
+    for w in 0..least(in_fours(whens), 256) {
         let gap = guard_gap(g, guard_place(whens, w), names);
-        if !is_nothing(gap) {
+        if gap.is_some() {
             return gap;
         }
-        w = w + 1;
     }
-    Gap::Nothing
+    None
 }
 
 // The first command of an action clause without a name; of them too there are at most 256.
-fn actions_gap(actions: &[u8], commands: usize) -> Gap {
-    let n = least(in_fours(actions), 256);
-    let mut a = 0;
-    while a < n {
-        let gap = command_gap(action_command(actions, a) as usize, commands);
-        if !is_nothing(gap) {
+fn actions_gap(actions: &[u8], commands: usize) -> Option<Gap> {
+    for a in 0..least(in_fours(actions), 256) {
+        let gap = command_gap(usize::from(action_command(actions, a)), commands);
+        if gap.is_some() {
             return gap;
         }
-        a = a + 1;
     }
-    Gap::Nothing
+    None
 }
 
 // A statement's own record: the command of a do, the guard of an if.
-fn statement_gap(r: &[u8], g: &[u8], names: usize, commands: usize) -> Gap {
-    let front = statement_record(r);
-    match front {
-        StatementRecord::Do(command, _) => command_gap(command as usize, commands),
-        StatementRecord::MoveTo(_) => Gap::Nothing,
+fn statement_gap(r: &[u8], g: &[u8], names: usize, commands: usize) -> Option<Gap> {
+    match statement_record(r) {
+        StatementRecord::Do(command, _) => command_gap(usize::from(command), commands),
         StatementRecord::If(branch) => guard_gap(g, branch.guard as usize, names),
-        StatementRecord::Unknown => Gap::Nothing,
+        StatementRecord::MoveTo(_) | StatementRecord::Unknown => None,
     }
 }
 
 // All statements.
-fn statements_gap(statements: &[u8], g: &[u8], names: usize, commands: usize) -> Gap {
-    let n = in_eights(statements);
-    let mut i = 0;
-    while i < n {
+fn statements_gap(statements: &[u8], g: &[u8], names: usize, commands: usize) -> Option<Gap> {
+    for i in 0..in_eights(statements) {
         let gap = statement_gap(record_at(statements, i), g, names, commands);
-        if !is_nothing(gap) {
+        if gap.is_some() {
             return gap;
         }
-        i = i + 1;
     }
-    Gap::Nothing
+    None
 }
 
 // The first number without a name of an accepted sheet.
-pub fn sheet_gap(sheet: &[u8], p: Places, names: usize, commands: usize) -> Gap
+pub fn sheet_gap(sheet: &[u8], p: Places, names: usize, commands: usize) -> Option<Gap>
     requires { Stands sheet.now p }
 {
     let guards = body_of(sheet, p, GUARDS);
-    let when = whens_gap(body_of(sheet, p, WHENS), guards, names);
-    if !is_nothing(when) {
-        return when;
-    }
-    let action = actions_gap(body_of(sheet, p, ACTIONS), commands);
-    if !is_nothing(action) {
-        return action;
-    }
-    statements_gap(body_of(sheet, p, STATEMENTS), guards, names, commands)
+    let actions = body_of(sheet, p, ACTIONS);
+    let statements = body_of(sheet, p, STATEMENTS);
+    whens_gap(body_of(sheet, p, WHENS), guards, names)
+        .or_else(|| actions_gap(actions, commands))
+        .or_else(|| statements_gap(statements, guards, names, commands))
 }
 
-// The first class whose states are not the sheet's, or how many there are; a sheet has at most 8.
-pub fn other_class(classes: &[u8], sets: &[u8]) -> usize {
-    let n = least(record_count(classes, 36), 8);
-    let mut i = 0;
-    while i < n {
+// The first class whose states are not the sheet's; a sheet has at most 8.
+pub fn other_class(classes: &[u8], sets: &[u8]) -> Option<usize> {
+    for i in 0..least(record_count(classes, 36), 8) {
         if class_set(classes, i) != name_set(sets, i) {
-            return i;
+            return Some(i);
         }
-        i = i + 1;
     }
-    i
+    None
 }
 
 // The field is the first word of a class line: no name is `class`.
@@ -185,14 +142,14 @@ pub fn class_name(file: &[u8], from: usize, n: usize) -> Field
         let field = next_field(file, at);
         let start = field.start;
         at = field.end;
-        if field.kind == FILE {
+        if let Kind::FileEnd = field.kind {
             return field;
         }
         if is_class(file, start, at) {
             if left == 0 {
                 return next_field(file, at);
             }
-            left = left - 1;
+            left -= 1;
         }
     }
 }

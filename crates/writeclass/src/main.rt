@@ -11,8 +11,9 @@ mod reasons;
 ghost use Rattle.std.specs.Prelude.{◌≡◌, length};
 ghost use Rattle.writeclass.specs.Made.{Inside};
 
-use converting::{Outcome, convert};
+use converting::{ClassFile, convert};
 use messages::say_refused;
+use saying::Why;
 
 // Room for one byte more than the longest file that is read.
 fn file_room() -> [u8; 262145]
@@ -29,15 +30,15 @@ fn text_room() -> [u8; 1259860]
 }
 
 // Writes the class file, or says why there is none.
-fn print(file: &[u8], text: &[u8], outcome: Outcome)
+fn print(file: &[u8], text: &[u8], outcome: Result<ClassFile, Why>)
     requires { Inside file.now outcome text.now }
 {
     match outcome {
-        Outcome::Text(from, to, size) => {
-            io::write_all(1, &file[from..to]);
-            io::write_all(1, &text[..size]);
+        Ok(made) => {
+            io::write_all(1, &file[made.from..made.to]);
+            io::write_all(1, &text[..made.length]);
         }
-        Outcome::Refused(why) => {
+        Err(why) => {
             say_refused(file, why);
         }
     }

@@ -7,7 +7,8 @@ use accepted::held::CLASSES;
 use accepted::readers::{body_of, class_count, state_count};
 use classfile::heads::Used;
 use lists::record_count;
-use saying::{LINE, Why, alone, at_word, of_numbers};
+use model::Refusal;
+use saying::{Said, Why, alone, at_word, of_numbers};
 use sheet::judging::{Places, judge};
 
 // The file is too long.
@@ -23,12 +24,12 @@ pub fn wrong_own(used: Used) -> Why {
     alone(10)
 }
 
-// A number has no name.
-fn wrong_gap(gap: Gap) -> Why {
+// A number has no name; where none is missing, no more can be said.
+fn wrong_gap(gap: Option<Gap>) -> Why {
     match gap {
-        Gap::Command(n) => of_numbers(14, n as u64, 0),
-        Gap::State(n) => of_numbers(15, n as u64, 0),
-        Gap::Nothing => alone(16),
+        Some(Gap::Command(n)) => of_numbers(14, n as u64, 0),
+        Some(Gap::State(n)) => of_numbers(15, n as u64, 0),
+        None => alone(16),
     }
 }
 
@@ -45,10 +46,9 @@ fn wrong_lists(
     requires from_in_bounds { from ≤ length file.now }
     requires stands { Stands sheet.now p }
 {
-    let other = other_class(classes, body_of(sheet, p, CLASSES));
-    if other < record_count(classes, 36) {
+    if let Some(other) = other_class(classes, body_of(sheet, p, CLASSES)) {
         let name = class_name(file, from, other);
-        return at_word(13, LINE, name.start, name.end);
+        return at_word(13, Said::Line, name.start, name.end);
     }
     wrong_gap(sheet_gap(sheet, p, names, commands))
 }
@@ -93,9 +93,7 @@ fn wrong_names(
 {
     let verdict = judge(sheet);
     match verdict {
-        Ok(p) => wrong_accepted(
-            file, from, sheet, p, states, names, commands, classes,
-        ),
+        Ok(p) => wrong_accepted(file, from, sheet, p, states, names, commands, classes),
         Err(_) => alone(16),
     }
 }
@@ -108,9 +106,9 @@ fn wrong_sheet(number: u64) -> Why {
     }
 }
 
-// Why there is no text of a sheet, by the refusal's number. The second head begins at a place of the file.
+// Why there is no text of a sheet. The second head begins at a place of the file.
 pub fn wrong_text(
-    number: u64,
+    refusal: Refusal,
     file: &[u8],
     from: usize,
     sheet: &[u8],
@@ -121,11 +119,9 @@ pub fn wrong_text(
 ) -> Why
     requires { from ≤ length file.now }
 {
-    if number == 17 {
-        return wrong_names(file, from, sheet, states, names, commands, classes);
+    match refusal {
+        Refusal::Naming => wrong_names(file, from, sheet, states, names, commands, classes),
+        Refusal::WrittenGuards => alone(17),
+        _ => wrong_sheet(u64::from(refusal)),
     }
-    if number == 19 {
-        return alone(17);
-    }
-    wrong_sheet(number)
 }

@@ -6,17 +6,17 @@ use Rattle.writeclass.proofs.converting.second_made.Goals as goal
 
 pub overflow_add-from : goal.overflow_add-from
 overflow_add-from c =
-    let l = head_ends c.args.file.now _ _ c.requires (head_inside _ _ _ _ _ c.read_head-answer.ensures.inside _ _ c.in-Read.is).1 in
+    let l = head_ends c.args.file.now _ _ c.requires (head_inside _ _ _ _ _ c.read_head-answer.ensures.inside _ _ c.in-Ok.is).1 in
     search rules
 
 pub lists_made-requires-clause-from_le_start : goal.lists_made-requires-clause-from_le_start
-lists_made-requires-clause-from_le_start c = let h = head_inside _ _ _ _ _ c.read_head-answer.ensures.inside _ _ c.in-Read.is in (omega arith, head_ends c.args.file.now _ _ c.requires h.1)
+lists_made-requires-clause-from_le_start c = let h = head_inside _ _ _ _ _ c.read_head-answer.ensures.inside _ _ c.in-Ok.is in (omega arith, head_ends c.args.file.now _ _ c.requires h.1)
 
 pub lists_made-requires-clause-fits : goal.lists_made-requires-clause-fits
-lists_made-requires-clause-fits c = let h = head_inside _ _ _ _ _ c.read_head-answer.ensures.inside _ _ c.in-Read.is in h.0
+lists_made-requires-clause-fits c = let h = head_inside _ _ _ _ _ c.read_head-answer.ensures.inside _ _ c.in-Ok.is in h.0
 
-pub returns-in-Bad : goal.returns-in-Bad
-returns-in-Bad c = second_wrong _ _ _ _ _ _ _ _ c.read_head-answer.ensures.head_read _ _ _ _ _ _ _ _ c.in-Bad.is _ _
+pub returns-in-Err : goal.returns-in-Err
+returns-in-Err c = second_wrong _ _ _ _ _ _ _ _ c.read_head-answer.ensures.head_read _ _ _ _ _ _ _ _ c.in-Err.is _ _
 
-pub returns-in-Read : goal.returns-in-Read
-returns-in-Read c = second_read _ _ _ _ _ _ _ _ c.read_head-answer.ensures.head_read _ _ _ _ _ _ _ c.in-Read.is _ _ c.lists_made.ensures
+pub returns-in-Ok : goal.returns-in-Ok
+returns-in-Ok c = second_read _ _ _ _ _ _ _ _ c.read_head-answer.ensures.head_read _ _ _ _ _ _ _ c.in-Ok.is _ _ c.lists_made.ensures

@@ -8,13 +8,13 @@ pub next_field-requires : goal.next_field-requires
 next_field-requires c = c.next_field-field.ensures.inside
 
 pub loop-field-smaller-then-is_class : goal.loop-field-smaller-then-is_class
-loop-field-smaller-then-is_class c = moved _ _ _ _ _ c.next_field-field.ensures c.if-field-eq-FILE.false
+loop-field-smaller-then-is_class c = moved _ _ _ _ _ c.next_field-field.ensures c.in_default.not-FileEnd
 
 pub loop-field-preserved-then-is_class : goal.loop-field-preserved-then-is_class
 loop-field-preserved-then-is_class c = c.next_field-field.ensures.inside
 
 pub loop-field-smaller : goal.loop-field-smaller
-loop-field-smaller c = moved _ _ _ _ _ c.next_field-field.ensures c.if-field-eq-FILE.false
+loop-field-smaller c = moved _ _ _ _ _ c.next_field-field.ensures c.in_default.not-FileEnd
 
 pub loop-field-preserved : goal.loop-field-preserved
 loop-field-preserved c = c.next_field-field.ensures.inside
