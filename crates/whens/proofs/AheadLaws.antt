@@ -1,13 +1,14 @@
 -- One turn of the loops that look ahead.
 -- Assumes nothing.
-use Prim.Native.Nat.{ℕ, ◌+◌, ◌-◌, ◌/◌, ◌%◌, ◌<◌}
+use Prim.Native.Nat.{ℕ, ◌+◌, ◌-◌, ◌/◌, ◌%◌, ◌<◌, ◌≤◌}
 use native.Mathlib.Omega.{arith}
+use mathlib.Core.Logic.{◌⊎◌, inl, inr}
 use mathlib.Core.Path.{◌≡◌, sym, ◌∙◌, ap}
-use mathlib.Core.Bool.{Bool, true, false, ◌&&◌, ◌||◌}
+use mathlib.Core.Bool.{Bool, true, false, ◌||◌}
 use mathlib.Core.List.{List, [], ◌∷◌}
-use lib.Dec.{eqb, leb}
+use lib.Dec.{eqb}
 use lib.ListN.{length}
-use borrow.Author.Tests.{ne_eqb, eq-eqb}
+use borrow.Author.Tests.{ne_eqb, eq-eqb, le-leb, lt-leb}
 use Rattle.model.proofs.Words.{true_not_false, or_second}
 use Rattle.grammar.specs.Grammar.{Name, Referrer, move_to, run, stay}
 use Rattle.grammar.specs.Words.{tokens}
@@ -84,13 +85,22 @@ pub action_told : (ns : List Name) (word : List ℕ) (f : Option ℕ) (r : ℕ) 
 action_told ns word f r e h = h ∙ ap found_number e
 
 -- a guard record more, or none
-pub one_more : (n k : ℕ) → (leb 15 k && leb k 19) ≡ true → n + 1 ≡ guards_after n k
+pub one_more : (n k : ℕ) → 15 ≤ k → k ≤ 19 → n + 1 ≡ guards_after n k
 unfolding guards_after
-one_more n k e = rw e
+one_more n k a b = rw (le-leb 15 k a, le-leb k 19 b)
 
-pub no_more : (n k : ℕ) → (leb 15 k && leb k 19) ≡ false → n ≡ guards_after n k
+pub none_below : (n k : ℕ) → k < 15 → n ≡ guards_after n k
 unfolding guards_after
-no_more n k e = rw e
+none_below n k a = rw (lt-leb 15 k a)
+
+pub none_above : (n k : ℕ) → 19 < k → n ≡ guards_after n k
+unfolding guards_after
+none_above n k a = rw (le-leb 15 k (omega arith), lt-leb k 19 a)
+
+-- at these kinds a stay is ahead
+stays : {k : ℕ} → (k ≡ 10) ⊎ (k ≡ 26) → (eqb k 10 || eqb k 26) ≡ true
+stays (inl e) = rw e
+stays (inr e) = rw e
 
 -- the first referrer ahead
 module _ (text : List ℕ) (at here k start end : ℕ) (L : referrer_ahead (tokens_from text at) ≡ referrer_ahead (tokens_from text here)) (N : Next text here k start end) where
@@ -101,29 +111,26 @@ module _ (text : List ℕ) (at here k start end : ℕ) (L : referrer_ahead (toke
       rw (turn text here k start end N (λ z. omega arith), kind_as k (stretch text start end), eq-eqb k 8 h) in
       record { says = ap move_to A.bytes ∙ sym (L ∙ e); named = record { ordered = A.ordered; inside = A.inside } }
 
-  pub refer_do : (k ≡ 8 → ⊥) → k ≡ 9 → (n : Stretch) → NameAhead text end n.start n.end → Refers text at (Do n)
+  pub refer_do : k ≡ 9 → (n : Stretch) → NameAhead text end n.start n.end → Refers text at (Do n)
   unfolding referrer_ahead
-  refer_do g h n A =
+  refer_do h n A =
       let e : referrer_ahead (tokens_from text here) ≡ run (first_bytes (tokens_from text end)) =
-      rw (turn text here k start end N (λ z. omega arith), kind_as k (stretch text start end), ne_eqb k 8 g, eq-eqb k 9 h) in
+      rw (turn text here k start end N (λ z. omega arith), kind_as k (stretch text start end), ne_eqb k 8 (λ z. omega arith), eq-eqb k 9 h) in
       record { says = ap run A.bytes ∙ sym (L ∙ e); named = record { ordered = A.ordered; inside = A.inside } }
 
-  pub refer_stay : (k ≡ 8 → ⊥) → (k ≡ 9 → ⊥) → (eqb k 10 || eqb k 26) ≡ true → Refers text at Stay
+  pub refer_stay : (k ≡ 10) ⊎ (k ≡ 26) → Refers text at Stay
   unfolding referrer_ahead
-  refer_stay f g h =
+  refer_stay h =
       let e : referrer_ahead (tokens_from text here) ≡ stay =
-      rw (front text here k start end N, kind_as k (stretch text start end), ne_eqb k 8 f, ne_eqb k 9 g, h) in
+      rw (front text here k start end N, kind_as k (stretch text start end), ne_eqb k 8 (λ z. omega arith), ne_eqb k 9 (λ z. omega arith), stays h) in
       record { says = sym (L ∙ e); named = tt }
 
-  pub refer_pass : (k ≡ 8 → ⊥) → (k ≡ 9 → ⊥) → (eqb k 10 || eqb k 26) ≡ false → referrer_ahead (tokens_from text at) ≡ referrer_ahead (tokens_from text end)
+  pub refer_pass : (k ≡ 8 → ⊥) → (k ≡ 9 → ⊥) → (k ≡ 10 → ⊥) → (k ≡ 26 → ⊥) → referrer_ahead (tokens_from text at) ≡ referrer_ahead (tokens_from text end)
   unfolding referrer_ahead
-  refer_pass f g h =
+  refer_pass f g h i =
       let e : referrer_ahead (tokens_from text here) ≡ referrer_ahead (tokens_from text end) =
-      rw (turn text here k start end N (not_end (eqb k 10) k h), kind_as k (stretch text start end), ne_eqb k 8 f, ne_eqb k 9 g, h) in
+      rw (turn text here k start end N i, kind_as k (stretch text start end), ne_eqb k 8 f, ne_eqb k 9 g, ne_eqb k 10 h, ne_eqb k 26 i) in
       L ∙ e
-
-  pub refer_less : (eqb k 10 || eqb k 26) ≡ false → length text - end < length text - here
-  refer_less h = less_ahead text here k start end N (not_end (eqb k 10) k h)
 
 -- the record of a when clause
 module _ (text : List ℕ) (here n : ℕ) (to : Refer) (R : Refers text here to) where

@@ -10,6 +10,7 @@ ghost use Rattle.whens.specs.Ahead.{guards_after, found_number, number_among, lo
 ghost use Rattle.whens.specs.Naming.{NameAhead, Refers};
 ghost use Rattle.whens.specs.Whens.{own_number, when_at, WritesWhens};
 
+use kinds::{ACTION, AND, DO, END, MOVE_TO, NAME, NOT_IN, STATE, STAY, WHEN};
 use own::{Holding, ahead, hold, number_of};
 use pen::put_four;
 use words::next_word;
@@ -48,10 +49,10 @@ pub fn guards_after(n: usize, kind: u8) -> usize
     requires { n < 18446744073709551615 }
     ensures { result ≡ guards_after n kind }
 {
-    if (15 <= kind) & (kind <= 19) {
-        return n + 1;
+    match kind {
+        AND..=NOT_IN => n + 1,
+        _ => n,
     }
-    n
 }
 
 // The name that is next; an empty one where the next word is none.
@@ -59,7 +60,7 @@ pub fn name_ahead(text: &[u8], at: usize) -> Stretch
     ensures { NameAhead text.now at result.start result.end }
 {
     let w = next_word(text, at);
-    if w.kind != 0 {
+    if w.kind != NAME {
         return Stretch { start: 0, end: 0 };
     }
     Stretch {
@@ -80,14 +81,14 @@ pub fn own_number(text: &[u8], table: &[usize], own: Holding, word: &[u8]) -> us
     requires { Filled text.now table.now 2 26 0 own.count own.rest }
     ensures { result ≡ own_number text.now word.now }
 {
-    found_number(number_of(text, table, own.count, own.rest, 2, 26, word))
+    found_number(number_of(text, table, own.count, own.rest, STATE, END, word))
 }
 
 // The number of an action of the state whose words stand at a place.
 fn action_number(text: &[u8], at: usize, word: &[u8]) -> usize
     ensures { result ≡ number_among (names_from text.now 3 2 at) word.now }
 {
-    found_number(ahead(text, at, 3, 2, word, 0))
+    found_number(ahead(text, at, ACTION, STATE, word, 0))
 }
 
 // The first referrer ahead.
@@ -97,16 +98,12 @@ fn referrer_ahead(text: &[u8], at: usize) -> Refer
     let mut here = at;
     loop {
         let w = next_word(text, here);
-        let k = w.kind;
         here = w.end;
-        if k == 8 {
-            return Refer::MoveTo(name_ahead(text, here));
-        }
-        if k == 9 {
-            return Refer::Do(name_ahead(text, here));
-        }
-        if (k == 10) | (k == 26) {
-            return Refer::Stay;
+        match w.kind {
+            MOVE_TO => return Refer::MoveTo(name_ahead(text, here)),
+            DO => return Refer::Do(name_ahead(text, here)),
+            STAY | END => return Refer::Stay,
+            _ => {}
         }
     }
 }
@@ -127,15 +124,11 @@ fn put_when(
     let to = referrer_ahead(text, here);
     match to {
         Refer::MoveTo(name) => {
-            let start = name.start;
-            let end = name.end;
-            let state = own_number(text, table, own, &text[start..end]);
+            let state = own_number(text, table, own, &text[name.start..name.end]);
             put_record(out, at, n, n / 256, 0, state)
         }
         Refer::Do(name) => {
-            let start = name.start;
-            let end = name.end;
-            let action = action_number(text, here, &text[start..end]);
+            let action = action_number(text, here, &text[name.start..name.end]);
             put_record(out, at, n, n / 256, 1, action)
         }
         Refer::Stay => put_record(out, at, n, n / 256, 2, 0),
@@ -147,20 +140,20 @@ pub fn write_whens(text: &[u8], out: &mut [u8], at: usize) -> usize
     ensures { WritesWhens text.now out.old at out.new result }
 {
     let mut table = [0usize; 64];
-    let own = hold(text, 0, 2, 26, &mut table);
+    let own = hold(text, 0, STATE, END, &mut table);
     let mut here = 0;
     let mut n = 0;
     let mut end = at;
     loop {
         let w = next_word(text, here);
         let k = w.kind;
-        if k == 26 {
+        if k == END {
             return end;
         }
         let before = n;
         here = w.end;
         n = guards_after(n, k);
-        if k == 7 {
+        if k == WHEN {
             end = put_when(text, &table, own, here, before, out, end);
         }
     }

@@ -7,8 +7,8 @@ use Rattle.words.specs.Scanning.{tokens_from}
 use Rattle.whens.specs.Whens.{referrer_ahead}
 use Rattle.whens.proofs.referrer_ahead.Given as goal
 
-abbrev pub invariant-loop-at : goal.invariant-loop-at
-invariant-loop-at l = referrer_ahead (tokens_from l.text l.at) ≡ referrer_ahead (tokens_from l.text l.here)
+abbrev pub invariant-loop : goal.invariant-loop
+invariant-loop l = referrer_ahead (tokens_from l.text l.at) ≡ referrer_ahead (tokens_from l.text l.here)
 
-abbrev pub decreases-loop-at : goal.decreases-loop-at
-decreases-loop-at l = length l.text - l.here
+abbrev pub decreases-loop : goal.decreases-loop
+decreases-loop l = length l.text - l.here
