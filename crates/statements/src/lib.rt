@@ -9,8 +9,9 @@ ghost use Rattle.pen.specs.Writing.{Puts};
 ghost use Rattle.whens.specs.Ahead.{low8};
 ghost use Rattle.whens.specs.Whens.{own_number};
 ghost use Rattle.statements.specs.Parts.{else_at, PartEnds};
-ghost use Rattle.statements.specs.Statements.{count_after, depth_after, on_after, kin_ahead, move_ahead, do_ahead, if_ahead, number_of, statement_at, WritesStatements};
+ghost use Rattle.statements.specs.Statements.{is_statement, count_after, depth_after, on_after, kin_ahead, move_ahead, do_ahead, if_ahead, number_of, statement_at, WritesStatements};
 
+use kinds::{ACTION, CHILDREN, DO, ELSE, END, ENDIF, IF, MOVE_TO, STATE};
 use lists::number_in;
 use own::{Holding, hold};
 use whens::{found_number, guards_after, name_ahead, own_number, put_record};
@@ -24,12 +25,19 @@ fn listed_number(list: &[u8], size: usize, word: &[u8]) -> usize
     found_number(number_in(list, size, word))
 }
 
+// A word of this kind begins a statement.
+fn is_statement(kind: u8) -> bool
+    ensures { result ≡ is_statement kind }
+{
+    matches!(kind, MOVE_TO | DO | IF)
+}
+
 // The number of statements before the next word, where n stand before a word of that kind.
 fn count_after(n: usize, kind: u8) -> usize
     requires { n < 18446744073709551615 }
     ensures { result ≡ count_after n kind }
 {
-    if (kind == 8) | ((kind == 9) | (kind == 11)) {
+    if is_statement(kind) {
         return n + 1;
     }
     n
@@ -40,16 +48,11 @@ fn depth_after(d: usize, kind: u8) -> usize
     requires { d < 18446744073709551615 }
     ensures { result ≡ depth_after d kind }
 {
-    if kind == 11 {
-        return d + 1;
+    match kind {
+        IF => d + 1,
+        ENDIF => d.saturating_sub(1),
+        _ => d,
     }
-    if kind != 14 {
-        return d;
-    }
-    if d == 0 {
-        return 0;
-    }
-    d - 1
 }
 
 // A part that is ahead: its statements, the word that ends it, and the place behind that.
@@ -71,7 +74,7 @@ fn part_ahead(text: &[u8], at: usize) -> PartEnd
         let w = next_word(text, here);
         let k = w.kind;
         here = w.end;
-        if (((k == 13) | (k == 14)) & (depth == 0)) | (k == 26) {
+        if (((k == ELSE) | (k == ENDIF)) & (depth == 0)) | (k == END) {
             return PartEnd {
                 size: n,
                 kind: k,
@@ -87,11 +90,10 @@ fn part_ahead(text: &[u8], at: usize) -> PartEnd
 fn else_size(text: &[u8], kind: u8, end: usize) -> usize
     ensures { result ≡ else_at text.now kind end }
 {
-    if kind != 13 {
+    if kind != ELSE {
         return 0;
     }
-    let part = part_ahead(text, end);
-    part.size
+    part_ahead(text, end).size
 }
 
 // The pattern of the kin that is next.
@@ -99,13 +101,11 @@ fn kin_ahead(text: &[u8], classes: &[u8], at: usize) -> usize
     ensures { result ≡ kin_ahead (number_of 36 classes.now) (tokens_from text.now at) }
 {
     let w = next_word(text, at);
-    if w.kind == 20 {
+    if w.kind == CHILDREN {
         return 255;
     }
     let name = name_ahead(text, at);
-    let start = name.start;
-    let end = name.end;
-    listed_number(classes, 36, &text[start..end])
+    listed_number(classes, 36, &text[name.start..name.end])
 }
 
 // The pattern of the kin that stands behind two words.
@@ -113,11 +113,11 @@ fn kin_behind(text: &[u8], classes: &[u8], at: usize) -> usize
     ensures { result ≡ kin_ahead (number_of 36 classes.now) (drop 2 (tokens_from text.now at)) }
 {
     let name = next_word(text, at);
-    if name.kind == 26 {
+    if name.kind == END {
         return 0;
     }
     let all = next_word(text, name.end);
-    if all.kind == 26 {
+    if all.kind == END {
         return 0;
     }
     kin_ahead(text, classes, all.end)
@@ -144,9 +144,7 @@ fn put_move(
     ensures { Puts (eights (move_ahead (own_number text.now) (tokens_from text.now here) ∷ [])) out.old at out.new result }
 {
     let name = name_ahead(text, here);
-    let start = name.start;
-    let end = name.end;
-    let state = own_number(text, table, own, &text[start..end]);
+    let state = own_number(text, table, own, &text[name.start..name.end]);
     put_short(out, at, 1, state, 0)
 }
 
@@ -162,9 +160,7 @@ fn put_do(
     ensures { Puts (eights (do_ahead (number_of 32 commands.now) (number_of 36 classes.now) (tokens_from text.now here) ∷ [])) out.old at out.new result }
 {
     let name = name_ahead(text, here);
-    let start = name.start;
-    let end = name.end;
-    let command = listed_number(commands, 32, &text[start..end]);
+    let command = listed_number(commands, 32, &text[name.start..name.end]);
     let pattern = kin_behind(text, classes, here);
     put_short(out, at, 0, command, pattern)
 }
@@ -196,26 +192,22 @@ fn put_statement(
     requires { Filled text.now table.now 2 26 0 own.count own.rest }
     ensures { Puts (eights (statement_at text.now commands.now classes.now here n kind ∷ [])) out.old at out.new result }
 {
-    if kind == 8 {
-        return put_move(text, table, own, here, out, at);
+    match kind {
+        MOVE_TO => put_move(text, table, own, here, out, at),
+        DO => put_do(text, commands, classes, here, out, at),
+        _ => put_if(text, here, n, out, at),
     }
-    if kind == 9 {
-        return put_do(text, commands, classes, here, out, at);
-    }
-    put_if(text, here, n, out, at)
 }
 
 // Statements stand behind an action: and before the next state:
 fn on_after(on: bool, kind: u8) -> bool
     ensures { result ≡ on_after on kind }
 {
-    if kind == 3 {
-        return true;
+    match kind {
+        ACTION => true,
+        STATE => false,
+        _ => on,
     }
-    if kind == 2 {
-        return false;
-    }
-    on
 }
 
 // The body of statements of the text's class, from a place of the buffer on; the place behind it.
@@ -229,7 +221,7 @@ pub fn write_statements(
     ensures { WritesStatements text.now commands.now classes.now out.old at out.new result }
 {
     let mut table = [0usize; 64];
-    let own = hold(text, 0, 2, 26, &mut table);
+    let own = hold(text, 0, STATE, END, &mut table);
     let mut here = 0;
     let mut on = false;
     let mut n = 0;
@@ -237,11 +229,11 @@ pub fn write_statements(
     loop {
         let w = next_word(text, here);
         let k = w.kind;
-        if k == 26 {
+        if k == END {
             return end;
         }
         let before = n;
-        let first = on & ((k == 8) | ((k == 9) | (k == 11)));
+        let first = on & is_statement(k);
         here = w.end;
         n = guards_after(n, k);
         on = on_after(on, k);

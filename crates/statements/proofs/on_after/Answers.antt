@@ -1,13 +1,14 @@
 -- By the kind.
 -- Assumes nothing.
+use native.Mathlib.Omega.{arith}
 use Rattle.statements.proofs.PuttingLaws.{on_action, on_state, on_other}
 use Rattle.statements.proofs.on_after.Goals as goal
 
-pub returns-then-kind-eq3 : goal.returns-then-kind-eq3
-returns-then-kind-eq3 c = on_action _ _ c.if-kind-eq3.true
+pub returns-in-3 : goal.returns-in-3
+returns-in-3 c = on_action _ _ c.in-3.is
 
-pub returns-then-kind-eq2 : goal.returns-then-kind-eq2
-returns-then-kind-eq2 c = on_state _ _ c.if-kind-eq3.false c.if-kind-eq2.true
+pub returns-in-2 : goal.returns-in-2
+returns-in-2 c = on_state _ _ (λ z. omega arith) c.in-2.is
 
-pub returns : goal.returns
-returns c = on_other _ _ c.if-kind-eq3.false c.if-kind-eq2.false
+pub returns-in_default : goal.returns-in_default
+returns-in_default c = on_other _ _ (λ z. omega arith) (λ z. omega arith)
