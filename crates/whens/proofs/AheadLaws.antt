@@ -4,12 +4,11 @@ use Prim.Native.Nat.{ℕ, ◌+◌, ◌-◌, ◌/◌, ◌%◌, ◌<◌, ◌≤◌
 use native.Mathlib.Omega.{arith}
 use mathlib.Core.Logic.{◌⊎◌, inl, inr}
 use mathlib.Core.Path.{◌≡◌, sym, ◌∙◌, ap}
-use mathlib.Core.Bool.{Bool, true, false, ◌||◌}
+use mathlib.Core.Bool.{true, ◌||◌}
 use mathlib.Core.List.{List, [], ◌∷◌}
 use lib.Dec.{eqb}
 use lib.ListN.{length}
 use borrow.Author.Tests.{ne_eqb, eq-eqb, le-leb, lt-leb}
-use Rattle.model.proofs.Words.{true_not_false, or_second}
 use Rattle.grammar.specs.Grammar.{Name, Referrer, move_to, run, stay}
 use Rattle.grammar.specs.Words.{tokens}
 use Rattle.grammar.specs.Kinds.{bytes_of, token_as}
@@ -62,10 +61,6 @@ name_next text at kind start end n h =
       ordered = omega arith;
       inside = n.inside (λ e. omega arith);
     }
-
--- a word that is neither of two kinds is not the end
-not_end : (a : Bool) (k : ℕ) → (a || eqb k 26) ≡ false → k ≡ end_kind → ⊥
-not_end a k t e = true_not_false (or_second a (eqb k 26) (eq-eqb k 26 e)) t
 
 -- each turn there is less text ahead
 pub less_ahead : (text : List ℕ) (here k start end : ℕ) → Next text here k start end → (k ≡ end_kind → ⊥) → length text - end < length text - here
