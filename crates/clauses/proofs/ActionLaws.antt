@@ -23,13 +23,12 @@ use Rattle.encoding.specs.Within.{Within}
 use Rattle.encoding.proofs.RecordCounts.{part_number}
 use Rattle.whens.proofs.Passing.{other_kind, in_guard, in_when, in_part, Passes, kin_pass, guard_pass, when_pass, part_pass}
 use Rattle.statements.proofs.PartLaws.{part_count, part_length}
-use Rattle.clauses.specs.Ahead.{number_ahead, command_number, command_ahead}
+use Rattle.clauses.specs.Ahead.{number_ahead, statements_ahead, command_number, command_ahead}
 use Rattle.clauses.specs.Bodies.{action_as, actions_from}
-use Rattle.clauses.specs.declared.Ahead.TheVariants.{Statements}
 use Rattle.clauses.proofs.Fitting.{Writable, high_byte, all_writable}
 
 -- what is no statement and no end is passed over
-quiet : Passes in_guard (λ n ws. number_ahead Statements ws)
+quiet : Passes in_guard (λ n ws. statements_ahead ws)
 unfolding number_ahead
 quiet n w ws e =
     rw (
@@ -42,16 +41,16 @@ quiet n w ws e =
 
 -- the statements of a part are counted
 module _ (l : Lists) where
-  past_guard : (g : Guard) (ws : List Token) → number_ahead Statements (guard_words g (fixed then_word ∷ ws)) ≡ number_ahead Statements ws
+  past_guard : (g : Guard) (ws : List Token) → statements_ahead (guard_words g (fixed then_word ∷ ws)) ≡ statements_ahead ws
   unfolding number_ahead kind_of
-  past_guard g ws = guard_pass l (λ n xs. number_ahead Statements xs) quiet g 0 (fixed then_word ∷ ws)
+  past_guard g ws = guard_pass l (λ n xs. statements_ahead xs) quiet g 0 (fixed then_word ∷ ws)
 
-  part_ahead : (p : Part) (ws : List Token) → number_ahead Statements (part_words p ws) ≡ part_count p + number_ahead Statements ws
+  part_ahead : (p : Part) (ws : List Token) → statements_ahead (part_words p ws) ≡ part_count p + statements_ahead ws
   unfolding part_words part_count number_ahead kind_of
   part_ahead nothing ws = omega arith
   part_ahead (send p c k) ws =
       let e = part_ahead p (fixed do_word ∷ name c ∷ fixed all_word ∷ kin_words k ws) in
-      let f = kin_pass l (λ n xs. number_ahead Statements xs) quiet k 0 ws in
+      let f = kin_pass l (λ n xs. statements_ahead xs) quiet k 0 ws in
       omega arith
   part_ahead (go_to p s) ws =
       let e = part_ahead p (fixed move_word ∷ name s ∷ ws) in
@@ -97,22 +96,22 @@ module _ (l : Lists) (own : List Name) where
       let b : length (part_records (part_of l own x.body M.end) n) < 65536 = omega arith in
       rw (command_right l x.command h c, p, high_byte (length (part_records (part_of l own x.body M.end) n)) b)
 
-  action_from : (x : Action) (rest : List Token) (n : ℕ) → number_ahead Statements rest ≡ 0 → listed_in (command_names l) x.command ≡ true → Writable (action_of l own x)
+  action_from : (x : Action) (rest : List Token) (n : ℕ) → statements_ahead rest ≡ 0 → listed_in (command_names l) x.command ≡ true → Writable (action_of l own x)
       → from (action_words x rest) ≡ action_record (action_of l own x) n ∷ from rest
   unfolding action_words actions_from number_ahead command_ahead kind_of bytes_of
   action_from x rest n e h w =
-      let z : number_ahead Statements (part_words x.body rest) ≡ part_count x.body = part_ahead l x.body rest ∙ omega arith in
-      let r = action_same x (number_ahead Statements (part_words x.body rest)) n h w z in
+      let z : statements_ahead (part_words x.body rest) ≡ part_count x.body = part_ahead l x.body rest ∙ omega arith in
+      let r = action_same x (statements_ahead (part_words x.body rest)) n h w z in
       let q = part_pass l (λ n ws. from ws) (from_pass in_part refl) x.body 0 rest in
       (λ i. r i ∷ q i)
 
   -- behind a list of action clauses no statement stands
-  none_ahead : (xs : List Action) (rest : List Token) → number_ahead Statements rest ≡ 0 → number_ahead Statements (list_words action_words xs rest) ≡ 0
+  none_ahead : (xs : List Action) (rest : List Token) → statements_ahead rest ≡ 0 → statements_ahead (list_words action_words xs rest) ≡ 0
   unfolding list_words action_words number_ahead kind_of
   none_ahead [] rest e = e
   none_ahead (x ∷ xs) rest e = refl
 
-  actions_listed : (xs : List Action) (rest : List Token) (n : ℕ) → number_ahead Statements rest ≡ 0 → every (action_known l own) xs ≡ true → Every Writable (map (action_of l own) xs)
+  actions_listed : (xs : List Action) (rest : List Token) (n : ℕ) → statements_ahead rest ≡ 0 → every (action_known l own) xs ≡ true → Every Writable (map (action_of l own) xs)
       → from (list_words action_words xs rest) ≡ placed action_guards (λ a m. action_record a m ∷ []) (map (action_of l own) xs) n ++ from rest
   unfolding list_words every action_known placed
   actions_listed [] rest n e k w = refl
@@ -127,7 +126,7 @@ module _ (l : Lists) (own : List Name) where
   from_whens [] rest = refl
   from_whens (x ∷ xs) rest = when_pass l (λ n ws. from ws) (from_pass in_when refl) x 0 (list_words when_words xs rest) ∙ from_whens xs rest
 
-  states_end : (ss : List State) → number_ahead Statements (list_words state_words ss (fixed end_word ∷ [])) ≡ 0
+  states_end : (ss : List State) → statements_ahead (list_words state_words ss (fixed end_word ∷ [])) ≡ 0
   unfolding list_words state_words number_ahead kind_of
   states_end [] = refl
   states_end (s ∷ ss) = refl

@@ -17,17 +17,16 @@ use Rattle.encoding.specs.Encoding.{state_record, state_records}
 use Rattle.encoding.specs.Numbers.{Every}
 use Rattle.encoding.specs.Within.{Within}
 use Rattle.whens.proofs.Passing.{other_kind, in_clause, in_when, in_part, Passes, clause_pass, when_pass, part_pass}
-use Rattle.clauses.specs.Ahead.{number_ahead}
+use Rattle.clauses.specs.Ahead.{number_ahead, whens_ahead, actions_ahead}
 use Rattle.clauses.specs.Bodies.{state_as, states_from}
-use Rattle.clauses.specs.declared.Ahead.TheVariants.{Whens, Actions}
 use Rattle.clauses.proofs.Fitting.{Countable, high_byte, all_countable}
 
 -- what is neither counted nor an end is passed over
-whens_pass : (P : ℕ → Bool) → P 2 ≡ false → P 7 ≡ false → Passes P (λ n ws. number_ahead Whens ws)
+whens_pass : (P : ℕ → Bool) → P 2 ≡ false → P 7 ≡ false → Passes P (λ n ws. whens_ahead ws)
 unfolding number_ahead
 whens_pass P a b n w ws e = rw (other_kind P 2 (kind_of w) a e, other_kind P 7 (kind_of w) b e)
 
-actions_pass : (P : ℕ → Bool) → P 2 ≡ false → P 3 ≡ false → Passes P (λ n ws. number_ahead Actions ws)
+actions_pass : (P : ℕ → Bool) → P 2 ≡ false → P 3 ≡ false → Passes P (λ n ws. actions_ahead ws)
 unfolding number_ahead
 actions_pass P a b n w ws e = rw (other_kind P 2 (kind_of w) a e, other_kind P 3 (kind_of w) b e)
 
@@ -37,18 +36,18 @@ states_pass P a n w ws e = rw (other_kind P 2 (kind_of w) a e)
 
 module _ (l : Lists) where
   -- when clauses: each is counted
-  whens_whens : (xs : List When) (rest : List Token) → number_ahead Whens (list_words when_words xs rest) ≡ length xs + number_ahead Whens rest
+  whens_whens : (xs : List When) (rest : List Token) → whens_ahead (list_words when_words xs rest) ≡ length xs + whens_ahead rest
   unfolding list_words when_words number_ahead kind_of
   whens_whens [] rest = omega arith
   whens_whens (x ∷ xs) rest =
-      let e = clause_pass l (λ n ws. number_ahead Whens ws) (whens_pass in_clause refl refl) x 0 (list_words when_words xs rest) in
+      let e = clause_pass l (λ n ws. whens_ahead ws) (whens_pass in_clause refl refl) x 0 (list_words when_words xs rest) in
       let h = whens_whens xs rest in
-      ap (λ (n : ℕ). n + 1) (e ∙ h) ∙ (let z : length xs + number_ahead Whens rest + 1 ≡ suc (length xs) + number_ahead Whens rest = omega arith in z)
+      ap (λ (n : ℕ). n + 1) (e ∙ h) ∙ (let z : length xs + whens_ahead rest + 1 ≡ suc (length xs) + whens_ahead rest = omega arith in z)
 
-  actions_whens : (xs : List When) (rest : List Token) → number_ahead Actions (list_words when_words xs rest) ≡ number_ahead Actions rest
+  actions_whens : (xs : List When) (rest : List Token) → actions_ahead (list_words when_words xs rest) ≡ actions_ahead rest
   unfolding list_words
   actions_whens [] rest = refl
-  actions_whens (x ∷ xs) rest = when_pass l (λ n ws. number_ahead Actions ws) (actions_pass in_when refl refl) x 0 (list_words when_words xs rest) ∙ actions_whens xs rest
+  actions_whens (x ∷ xs) rest = when_pass l (λ n ws. actions_ahead ws) (actions_pass in_when refl refl) x 0 (list_words when_words xs rest) ∙ actions_whens xs rest
 
   states_whens : (xs : List When) (rest : List Token) → states_from (list_words when_words xs rest) ≡ states_from rest
   unfolding list_words
@@ -56,18 +55,18 @@ module _ (l : Lists) where
   states_whens (x ∷ xs) rest = when_pass l (λ n ws. states_from ws) (states_pass in_when refl) x 0 (list_words when_words xs rest) ∙ states_whens xs rest
 
   -- action clauses
-  whens_actions : (xs : List Action) (rest : List Token) → number_ahead Whens (list_words action_words xs rest) ≡ number_ahead Whens rest
+  whens_actions : (xs : List Action) (rest : List Token) → whens_ahead (list_words action_words xs rest) ≡ whens_ahead rest
   unfolding list_words action_words number_ahead kind_of
   whens_actions [] rest = refl
-  whens_actions (x ∷ xs) rest = part_pass l (λ n ws. number_ahead Whens ws) (whens_pass in_part refl refl) x.body 0 (list_words action_words xs rest) ∙ whens_actions xs rest
+  whens_actions (x ∷ xs) rest = part_pass l (λ n ws. whens_ahead ws) (whens_pass in_part refl refl) x.body 0 (list_words action_words xs rest) ∙ whens_actions xs rest
 
-  actions_actions : (xs : List Action) (rest : List Token) → number_ahead Actions (list_words action_words xs rest) ≡ length xs + number_ahead Actions rest
+  actions_actions : (xs : List Action) (rest : List Token) → actions_ahead (list_words action_words xs rest) ≡ length xs + actions_ahead rest
   unfolding list_words action_words number_ahead kind_of
   actions_actions [] rest = omega arith
   actions_actions (x ∷ xs) rest =
-      let e = part_pass l (λ n ws. number_ahead Actions ws) (actions_pass in_part refl refl) x.body 0 (list_words action_words xs rest) in
+      let e = part_pass l (λ n ws. actions_ahead ws) (actions_pass in_part refl refl) x.body 0 (list_words action_words xs rest) in
       ap (λ (n : ℕ). n + 1) (e ∙ actions_actions xs rest)
-      ∙ (let z : length xs + number_ahead Actions rest + 1 ≡ suc (length xs) + number_ahead Actions rest = omega arith in z)
+      ∙ (let z : length xs + actions_ahead rest + 1 ≡ suc (length xs) + actions_ahead rest = omega arith in z)
 
   states_actions : (xs : List Action) (rest : List Token) → states_from (list_words action_words xs rest) ≡ states_from rest
   unfolding list_words action_words states_from kind_of
@@ -76,8 +75,8 @@ module _ (l : Lists) where
 
   -- a state: what stands behind it ends its clauses
   pub record Ended (rest : List Token) : Type 0 where
-    pub whens : number_ahead Whens rest ≡ 0
-    pub actions : number_ahead Actions rest ≡ 0
+    pub whens : whens_ahead rest ≡ 0
+    pub actions : actions_ahead rest ≡ 0
 
   behind_states : (ss : List State) → Ended (list_words state_words ss (fixed end_word ∷ []))
   unfolding list_words state_words number_ahead kind_of
@@ -91,9 +90,9 @@ module _ (l : Lists) where
       let ws = in_order s.whens [] in
       let xs = in_order s.actions [] in
       let tail : List Token = list_words action_words xs rest in
-      let W : number_ahead Whens (list_words when_words ws tail) ≡ length ws =
+      let W : whens_ahead (list_words when_words ws tail) ≡ length ws =
       whens_whens ws tail ∙ (ap (λ (n : ℕ). length ws + n) (whens_actions xs rest ∙ e.whens) ∙ (let z : length ws + 0 ≡ length ws = omega arith in z)) in
-      let A : number_ahead Actions (list_words when_words ws tail) ≡ length xs =
+      let A : actions_ahead (list_words when_words ws tail) ≡ length xs =
       actions_whens ws tail ∙ (actions_actions xs rest ∙ (ap (λ (n : ℕ). length xs + n) e.actions ∙ (let z : length xs + 0 ≡ length xs = omega arith in z))) in
       let R : states_from (list_words when_words ws tail) ≡ states_from rest = states_whens ws tail ∙ states_actions xs rest in
       ap states_from (state_as_lists s rest) ∙ (λ i. state_as (W i) (A i) ∷ R i)

@@ -4,11 +4,12 @@ use Prim.Native.Nat.{ℕ, ◌+◌, ◌<◌, ◌≤◌, ◌%◌}
 use native.Mathlib.Omega.{arith}
 use mathlib.Core.Path.{◌≡◌, refl, sym, ◌∙◌, ap, subst}
 use mathlib.Core.Bool.{Bool, true, false}
+use Rattle.std.specs.List.{list_any}
 use mathlib.Core.List.{List, [], ◌∷◌, ◌++◌}
 use lib.Dec.{eqb}
 use lib.ListN.{length, length-replicate}
 use native.Mathlib.Nat.{mod-mod}
-use borrow.Author.Tests.{eq-eqb, ne_eqb}
+use borrow.Author.Tests.{eq-eqb, ne_eqb, eqb-true, eqb-false}
 use Rattle.model.specs.Words.{choose, kept}
 use Rattle.grammar.specs.Grammar.{Token, fixed, end_word}
 use Rattle.grammar.specs.Words.{words, tokens}
@@ -23,10 +24,8 @@ use Rattle.encoding.specs.Encoding.{state_bytes}
 use Rattle.pen.specs.Writing.{last_place, two, Puts}
 use Rattle.pen.proofs.Puts.{Writing, writing_more, writing_end}
 use Rattle.sizes.specs.Counting.{tick}
-use Rattle.clauses.specs.Ahead.{counts, stops, number_ahead, numbered, command_number, command_ahead}
+use Rattle.clauses.specs.Ahead.{one_of, number_ahead, whens_ahead, actions_ahead, statements_ahead, numbered, command_number, command_ahead}
 use Rattle.clauses.specs.Bodies.{state_as, action_as, states_from, actions_from}
-use Rattle.clauses.specs.declared.Ahead.{Ahead}
-use Rattle.clauses.specs.declared.Ahead.TheVariants.{Whens, Actions, Statements}
 
 -- the word found stands in front of the others
 first_word : {text : List ℕ} {at kind start end : ℕ} → Next text at kind start end → tokens_from text at ≡ token_as kind (stretch text start end) ∷ tokens (behind text kind end)
@@ -38,39 +37,54 @@ tick_sum : (b : Bool) (n x : ℕ) → n + tick b x ≡ tick b n + x
 tick_sum true n x = omega arith
 tick_sum false n x = refl
 
-none_at_end : (a : Ahead) → number_ahead a (fixed end_word ∷ []) ≡ 0
+-- the end is neither counted nor passed
+none_at_end : (cs ss : List ℕ) → one_of cs 26 ≡ false → number_ahead cs ss (fixed end_word ∷ []) ≡ 0
 unfolding number_ahead kind_of
-none_at_end Whens = refl
-none_at_end Actions = refl
-none_at_end Statements = refl
+none_at_end cs ss h = rw h (go (one_of ss 26))
+  where
+    go : (b : Bool) → ◌≡◌ {A = ℕ} (choose b (λ _. 0) (λ _. 0)) 0
+    go true = refl
+    go false = refl
+
+turned : (j k : ℕ) → eqb j k ≡ eqb k j
+turned j k = go (eqb k j) refl
+  where
+    go : (b : Bool) → eqb k j ≡ b → eqb j k ≡ b
+    go true e = eq-eqb j k (sym (eqb-true k j e))
+    go false e = ne_eqb j k (λ z. eqb-false k j e (sym z))
+
+-- what the library's `contains` tells
+pub contained : (ks : List ℕ) (k : ℕ) → list_any (λ j. eqb j k) ks ≡ one_of ks k
+contained [] k = refl
+contained (j ∷ js) k = rw (turned j k, contained js k)
 
 -- the loop that counts: what is counted, and what is left
-pub record Numbering (text : List ℕ) (a : Ahead) (at n from : ℕ) : Type 0 where
-  pub left : number_ahead a (tokens_from text at) ≡ n + number_ahead a (tokens_from text from)
+pub record Numbering (text : List ℕ) (cs ss : List ℕ) (at n from : ℕ) : Type 0 where
+  pub left : number_ahead cs ss (tokens_from text at) ≡ n + number_ahead cs ss (tokens_from text from)
   pub few : n ≤ from
 
-pub numbering_start : (text : List ℕ) (a : Ahead) (at : ℕ) → Numbering text a at 0 at
-numbering_start text a at = record { left = omega arith; few = omega arith }
+pub numbering_start : (text : List ℕ) (cs ss : List ℕ) (at : ℕ) → Numbering text cs ss at 0 at
+numbering_start text cs ss at = record { left = omega arith; few = omega arith }
 
-module _ {text : List ℕ} {a : Ahead} {at n from : ℕ} (s : Numbering text a at n from) {kind start end : ℕ} (w : Next text from kind start end) where
-  ahead_turn : (kind ≡ end_kind → ⊥) → number_ahead a (tokens_from text from) ≡ choose (stops a kind) (λ _. 0) (λ _. tick (counts a kind) (number_ahead a (tokens_from text end)))
+module _ {text : List ℕ} {cs ss : List ℕ} {at n from : ℕ} (s : Numbering text cs ss at n from) {kind start end : ℕ} (w : Next text from kind start end) where
+  ahead_turn : (kind ≡ end_kind → ⊥) → number_ahead cs ss (tokens_from text from) ≡ choose (one_of ss kind) (λ _. 0) (λ _. tick (one_of cs kind) (number_ahead cs ss (tokens_from text end)))
   unfolding number_ahead
   ahead_turn h =
-      ap (number_ahead a) (turn text from kind start end w h)
-      ∙ ap (λ (k : ℕ). choose (stops a k) (λ _. 0) (λ _. tick (counts a k) (number_ahead a (tokens_from text end)))) (kind_as kind (stretch text start end))
+      ap (number_ahead cs ss) (turn text from kind start end w h)
+      ∙ ap (λ (k : ℕ). choose (one_of ss k) (λ _. 0) (λ _. tick (one_of cs k) (number_ahead cs ss (tokens_from text end)))) (kind_as kind (stretch text start end))
 
-  pub numbering_end : kind ≡ end_kind → n ≡ number_ahead a (tokens_from text at)
-  numbering_end h = let z = ap (number_ahead a) (last text from kind start end w h) ∙ none_at_end a in omega (arith, s.left)
+  pub numbering_end : one_of cs 26 ≡ false → kind ≡ end_kind → n ≡ number_ahead cs ss (tokens_from text at)
+  numbering_end q h = let z = ap (number_ahead cs ss) (last text from kind start end w h) ∙ none_at_end cs ss q in omega (arith, s.left)
 
-  pub numbering_stop : (kind ≡ end_kind → ⊥) → {b : Bool} → b ≡ stops a kind → b ≡ true → n ≡ number_ahead a (tokens_from text at)
-  numbering_stop h e t = let z : number_ahead a (tokens_from text from) ≡ 0 = ahead_turn h ∙ rw (sym e ∙ t) in omega (arith, s.left)
+  pub numbering_stop : (kind ≡ end_kind → ⊥) → {b : Bool} → b ≡ one_of ss kind → b ≡ true → n ≡ number_ahead cs ss (tokens_from text at)
+  numbering_stop h e t = let z : number_ahead cs ss (tokens_from text from) ≡ 0 = ahead_turn h ∙ rw (sym e ∙ t) in omega (arith, s.left)
 
-  pub numbering_more : (kind ≡ end_kind → ⊥) → {b c : Bool} → b ≡ stops a kind → b ≡ false → c ≡ counts a kind → {m : ℕ} → m ≡ tick c n → Numbering text a at m end
+  pub numbering_more : (kind ≡ end_kind → ⊥) → {b c : Bool} → b ≡ one_of ss kind → b ≡ false → c ≡ one_of cs kind → {m : ℕ} → m ≡ tick c n → Numbering text cs ss at m end
   numbering_more h {b} {c} e f g {m} em =
-      let z : number_ahead a (tokens_from text from) ≡ tick (counts a kind) (number_ahead a (tokens_from text end)) = ahead_turn h ∙ rw (sym e ∙ f) in
+      let z : number_ahead cs ss (tokens_from text from) ≡ tick (one_of cs kind) (number_ahead cs ss (tokens_from text end)) = ahead_turn h ∙ rw (sym e ∙ f) in
       let l : from < end = omega (arith, w.onward, w.moves h) in
       record {
-        left = s.left ∙ (ap (λ (x : ℕ). n + x) z ∙ rw (em, g) (tick_sum (counts a kind) n (number_ahead a (tokens_from text end))));
+        left = s.left ∙ (ap (λ (x : ℕ). n + x) z ∙ rw (em, g) (tick_sum (one_of cs kind) n (number_ahead cs ss (tokens_from text end))));
         few = rw em (more c);
       }
     where
@@ -170,7 +184,7 @@ states_made =
     record {
       from = states_from;
       kind = 2;
-      made = λ ws. state_as (number_ahead Whens ws) (number_ahead Actions ws);
+      made = λ ws. state_as (whens_ahead ws) (actions_ahead ws);
       bytes = λ rs. state_bytes rs;
       nothing = refl;
       one = λ w ws. refl;
@@ -184,7 +198,7 @@ actions_made commands =
     record {
       from = actions_from commands;
       kind = 3;
-      made = λ ws. action_as (command_ahead commands ws) (number_ahead Statements ws);
+      made = λ ws. action_as (command_ahead commands ws) (statements_ahead ws);
       bytes = fours;
       nothing = refl;
       one = λ w ws. refl;
@@ -194,13 +208,13 @@ actions_made commands =
 
 -- what is found at the word of a state, and of an action clause
 module _ {text before : List ℕ} {at : ℕ} {out : List ℕ} {end from : ℕ} {kind start to : ℕ} (w : Next text from kind start to) (h : kind ≡ end_kind → ⊥) {next : List ℕ} {i : ℕ} (q : length next ≡ length out) where
-  pub states_put : Laying states_made text before at out end from → kind ≡ 2 → {x y : ℕ} → x ≡ number_ahead Whens (tokens_from text to) → y ≡ number_ahead Actions (tokens_from text to)
+  pub states_put : Laying states_made text before at out end from → kind ≡ 2 → {x y : ℕ} → x ≡ whens_ahead (tokens_from text to) → y ≡ actions_ahead (tokens_from text to)
       → Puts (state_bytes (state_as x y ∷ [])) out end next i → Laying states_made text before at next i to
   unfolding states_made
   states_put s e ex ey p = laying_put states_made s w h e q (rw (ex, ey) at p)
 
   pub actions_put : (commands : List ℕ) → Laying (actions_made commands) text before at out end from → kind ≡ 3 → {x y : ℕ} → x ≡ command_ahead commands (tokens_from text to)
-      → y ≡ number_ahead Statements (tokens_from text to) → Puts (fours (action_as x y ∷ [])) out end next i → Laying (actions_made commands) text before at next i to
+      → y ≡ statements_ahead (tokens_from text to) → Puts (fours (action_as x y ∷ [])) out end next i → Laying (actions_made commands) text before at next i to
   unfolding actions_made
   actions_put commands s e ex ey p = laying_put (actions_made commands) s w h e q (rw (ex, ey) at p)
 

@@ -1,32 +1,33 @@
 -- What is told by the words ahead: how many clauses or statements, and which command.
 -- Assumes nothing.
-use Rattle.std.specs.Prelude.{ℕ, ◌%◌, Bool, ◌||◌, Option, Some, None, List, [], ◌∷◌, eqb}
+use Rattle.std.specs.Prelude.{ℕ, ◌%◌, Bool, false, ◌||◌, Option, Some, None, List, [], ◌∷◌, eqb}
 use Rattle.model.specs.Words.{choose}
 use Rattle.grammar.specs.Grammar.{Token, Name}
 use Rattle.grammar.specs.Kinds.{kind_of, bytes_of}
 use Rattle.naming.specs.NameLists.{padded, records_in}
 use Rattle.lists.specs.Lent.{found_from}
-use Rattle.statements.specs.Statements.{is_statement}
 use Rattle.sizes.specs.Counting.{tick}
-use Rattle.clauses.specs.declared.Ahead.{Ahead}
-use Rattle.clauses.specs.declared.Ahead.TheVariants.{Whens, Actions, Statements}
 
--- the kinds of words that are counted: when, action:, the first word of a statement
-abbrev pub counts : Ahead → ℕ → Bool
-counts Whens k = eqb k 7
-counts Actions k = eqb k 3
-counts Statements k = is_statement k
+-- the kind is one of these
+abbrev pub one_of : List ℕ → ℕ → Bool
+one_of [] k = false
+one_of (j ∷ js) k = eqb k j || one_of js k
 
--- up to the next state:, or for statements the next action: or state:
-abbrev pub stops : Ahead → ℕ → Bool
-stops Whens k = eqb k 2
-stops Actions k = eqb k 2
-stops Statements k = eqb k 2 || eqb k 3
+-- how many words of the kinds that are counted stand in these words, up to the first of a kind that stops
+unfoldable pub number_ahead : List ℕ → List ℕ → List Token → ℕ
+number_ahead counted stops [] = 0
+number_ahead counted stops (w ∷ ws) = choose (one_of stops (kind_of w)) (λ _. 0) (λ _. tick (one_of counted (kind_of w)) (number_ahead counted stops ws))
 
--- how many stand in these words
-unfoldable pub number_ahead : Ahead → List Token → ℕ
-number_ahead a [] = 0
-number_ahead a (w ∷ ws) = choose (stops a (kind_of w)) (λ _. 0) (λ _. tick (counts a (kind_of w)) (number_ahead a ws))
+-- the words when, and the words action:, up to the next state:
+abbrev pub whens_ahead : List Token → ℕ
+whens_ahead = number_ahead (7 ∷ []) (2 ∷ [])
+
+abbrev pub actions_ahead : List Token → ℕ
+actions_ahead = number_ahead (3 ∷ []) (2 ∷ [])
+
+-- the first words of statements, up to the next action: or state:
+abbrev pub statements_ahead : List Token → ℕ
+statements_ahead = number_ahead (8 ∷ 9 ∷ 11 ∷ []) (2 ∷ 3 ∷ [])
 
 -- a number that was found, in a byte
 abbrev pub numbered : Option ℕ → ℕ

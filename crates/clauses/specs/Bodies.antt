@@ -15,8 +15,7 @@ use Rattle.encoding.specs.Encoding.{state_record, state_records, state_bytes, ac
 use Rattle.encoding.specs.Within.{Within}
 use Rattle.pen.specs.Writing.{Puts}
 use Rattle.whens.specs.Ahead.{low4}
-use Rattle.clauses.specs.Ahead.{number_ahead, command_ahead}
-use Rattle.clauses.specs.declared.Ahead.TheVariants.{Whens, Actions, Statements}
+use Rattle.clauses.specs.Ahead.{whens_ahead, actions_ahead, statements_ahead, command_ahead}
 
 -- a state of that many clauses, whatever they are
 abbrev pub of_so_many : ℕ → ℕ → State
@@ -34,13 +33,13 @@ action_as command statements = four command 0 (statements % 256) (statements / 2
 -- the states of these words
 unfoldable pub states_from : List Token → List Four
 states_from [] = []
-states_from (w ∷ ws) = kept (eqb (kind_of w) 2) (state_as (number_ahead Whens ws) (number_ahead Actions ws)) (states_from ws)
+states_from (w ∷ ws) = kept (eqb (kind_of w) 2) (state_as (whens_ahead ws) (actions_ahead ws)) (states_from ws)
 
 -- the action clauses of these words
 unfoldable pub actions_from : List ℕ → List Token → List Four
 actions_from commands [] = []
 actions_from commands (w ∷ ws) =
-    kept (eqb (kind_of w) 3) (action_as (command_ahead commands ws) (number_ahead Statements ws)) (actions_from commands ws)
+    kept (eqb (kind_of w) 3) (action_as (command_ahead commands ws) (statements_ahead ws)) (actions_from commands ws)
 
 -- the states of the words stand in the buffer from a place on: of a text, those of its class
 pub record WritesStates (text before : List ℕ) (at : ℕ) (after : List ℕ) (r : ℕ) : Type 0 where

@@ -2,53 +2,25 @@
 // They are counted ahead, in the words behind.
 #![tactic(auto)]
 
-ghost use Rattle.std.specs.Prelude.{◌≡◌, [], ◌∷◌};
+ghost use Rattle.std.specs.Prelude.{◌≡◌, [], ◌∷◌, false};
 ghost use Rattle.encoding.specs.Records.{fours};
 ghost use Rattle.encoding.specs.Encoding.{state_bytes};
 ghost use Rattle.words.specs.Scanning.{tokens_from};
 ghost use Rattle.pen.specs.Writing.{Puts};
-ghost use Rattle.clauses.specs.Ahead.{counts, stops, number_ahead, command_number, command_ahead};
+ghost use Rattle.clauses.specs.Ahead.{one_of, number_ahead, command_number, command_ahead};
 ghost use Rattle.clauses.specs.Bodies.{state_as, action_as, WritesStates, WritesActions};
 
-use kinds::{ACTION, DO, END, IF, MOVE_TO, STATE, WHEN};
+use kinds::{ACTION, DO, END, IF, MOVE_TO, NAME, STATE, WHEN};
 use lists::number_in;
 use pen::{put_one, put_two};
 use sizes::tick;
 use words::next_word;
 
-// What is counted in the words ahead: a state's when clauses, its action clauses, an action clause's statements.
-#[derive(Clone, Copy)]
-pub enum Ahead {
-    Whens,
-    Actions,
-    Statements,
-}
-
-// A word of this kind is counted.
-fn counts(what: Ahead, kind: u8) -> bool
-    ensures { result ≡ counts what kind }
-{
-    match what {
-        Ahead::Whens => kind == WHEN,
-        Ahead::Actions => kind == ACTION,
-        Ahead::Statements => (kind == MOVE_TO) | ((kind == DO) | (kind == IF)),
-    }
-}
-
-// At a word of this kind counting ends.
-fn stops(what: Ahead, kind: u8) -> bool
-    ensures { result ≡ stops what kind }
-{
-    match what {
-        Ahead::Whens => kind == STATE,
-        Ahead::Actions => kind == STATE,
-        Ahead::Statements => (kind == STATE) | (kind == ACTION),
-    }
-}
-
-// How many stand in the words from a place on.
-fn number_ahead(text: &[u8], at: usize, what: Ahead) -> usize
-    ensures { result ≡ number_ahead what (tokens_from text.now at) }
+// How many words of the kinds that are counted stand in the words from a place on, up to the first of a kind that stops;
+// the end is not counted.
+fn number_ahead(text: &[u8], at: usize, counted: &[u8], stops: &[u8]) -> usize
+    requires { one_of counted.now 26 ≡ false }
+    ensures { result ≡ number_ahead counted.now stops.now (tokens_from text.now at) }
 {
     let mut n = 0;
     let mut from = at;
@@ -58,10 +30,10 @@ fn number_ahead(text: &[u8], at: usize, what: Ahead) -> usize
         if kind == END {
             return n;
         }
-        if stops(what, kind) {
+        if stops.contains(&kind) {
             return n;
         }
-        n = tick(counts(what, kind), n);
+        n = tick(counted.contains(&kind), n);
         from = word.end;
     }
 }
@@ -82,12 +54,10 @@ fn command_ahead(text: &[u8], at: usize, commands: &[u8]) -> u8
     ensures { result ≡ command_ahead commands.now (tokens_from text.now at) }
 {
     let word = next_word(text, at);
-    let start = word.start;
-    let end = word.end;
-    if word.kind != 0 {
+    if word.kind != NAME {
         return 0;
     }
-    command_number(commands, &text[start..end])
+    command_number(commands, &text[word.start..word.end])
 }
 
 // A state's record: the numbers of its when and of its action clauses.
@@ -121,8 +91,8 @@ pub fn write_states(text: &[u8], out: &mut [u8], at: usize) -> usize
         }
         from = word.end;
         if kind == STATE {
-            let whens = number_ahead(text, from, Ahead::Whens);
-            let actions = number_ahead(text, from, Ahead::Actions);
+            let whens = number_ahead(text, from, &[WHEN], &[STATE]);
+            let actions = number_ahead(text, from, &[ACTION], &[STATE]);
             end = put_state(out, end, whens, actions);
         }
     }
@@ -143,7 +113,7 @@ pub fn write_actions(text: &[u8], commands: &[u8], out: &mut [u8], at: usize) ->
         from = word.end;
         if kind == ACTION {
             let command = command_ahead(text, from, commands);
-            let statements = number_ahead(text, from, Ahead::Statements);
+            let statements = number_ahead(text, from, &[MOVE_TO, DO, IF], &[STATE, ACTION]);
             end = put_action(out, end, command, statements);
         }
     }

@@ -5,8 +5,8 @@ use lib.ListN.{length}
 use Rattle.clauses.proofs.Turns.{Numbering}
 use Rattle.clauses.proofs.number_ahead.Given as goal
 
-abbrev pub invariant-loop-what : goal.invariant-loop-what
-invariant-loop-what l = Numbering l.text l.what l.at l.n l.from
+abbrev pub invariant-loop-word : goal.invariant-loop-word
+invariant-loop-word l = Numbering l.text l.counted l.stops l.at l.n l.from
 
-abbrev pub decreases-loop-what : goal.decreases-loop-what
-decreases-loop-what l = length l.text - l.from
+abbrev pub decreases-loop-word : goal.decreases-loop-word
+decreases-loop-word l = length l.text - l.from
