@@ -37,13 +37,6 @@ fn watch(text: &[u8], from: usize, to: usize, ifs: usize) -> bool
     seen
 }
 
-// No if is open, so no level is marked.
-fn no_marks() -> [bool; 16384]
-    ensures { length result ≡ 16384 }
-{
-    [false; 16384]
-}
-
 // Marks the level of the innermost open if, behind a word of that kind.
 fn note(marks: &mut [bool], level: usize, kind: u8)
     ensures { Noted marks.old level kind marks.new }
@@ -84,7 +77,8 @@ fn begun(from: usize, at: usize, ifs: usize) -> usize
 pub fn first_wrong(text: &[u8]) -> Result<(), usize>
     ensures { Recognised text.now result }
 {
-    let mut marks = no_marks();
+    // No if is open, so no level is marked.
+    let mut marks = [false; 16384];
     let mut want = Want::Start;
     let mut opened = Open {
         brackets: 0,

@@ -1,10 +1,11 @@
 use native.Mathlib.Omega.{arith}
+use borrow.Author.Rules.{rules}
 use mathlib.Core.Path.{◌∙◌}
 use Rattle.recognised.proofs.Walks.{walk_none, walk_stop, walk_fine, walk_on}
 use Rattle.recognised.proofs.first_wrong.Goals as goal
 
 pub loop-next-init : goal.loop-next-init
-loop-next-init c = (c.no_marks-marks.ensures, walk_none _ _)
+loop-next-init c = (search rules, walk_none _ _)
 
 pub returns-in_default : goal.returns-in_default
 returns-in_default c =
