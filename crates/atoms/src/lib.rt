@@ -51,6 +51,7 @@ fn with_name(names: &[u8], set: u32, word: &[u8]) -> u32
 }
 
 // A set with the names up to the brace that closes.
+#[tactic(auto, using(crate::proofs::AtomSteps::braced_goes))]
 fn braced(text: &[u8], at: usize, names: &[u8]) -> u32
     ensures { result ≡ braced (records_in 32 names.now) (tokens_from text.now at) 0 }
 {
@@ -72,6 +73,7 @@ fn braced(text: &[u8], at: usize, names: &[u8]) -> u32
 }
 
 // The set that stands at a place: one name, or names in braces.
+#[tactic(auto, using(crate::proofs::AtomSteps::goes))]
 fn set_ahead(text: &[u8], at: usize, names: &[u8]) -> u32
     ensures { result ≡ set_ahead (records_in 32 names.now) (tokens_from text.now at) }
 {
@@ -106,6 +108,7 @@ fn side_ahead(text: &[u8], at: usize, kind: u8, pattern: u8, names: &[u8]) -> Op
 }
 
 // What stands behind a quantifier: an atom's kind, pattern and name set, or no atom.
+#[tactic(auto, using(crate::proofs::AtomSteps::goes))]
 pub fn atom_ahead(
     text: &[u8],
     at: usize,

@@ -1,9 +1,7 @@
 -- `atoms::braced` meets its contract. The loop's invariant: the names from here on, added to those so far, are those from the start.
 -- The measure is what is left of the text. Assumes nothing.
-use native.Mathlib.Omega.{arith}
 use mathlib.Core.Path.{refl, sym, ◌∙◌}
-use mathlib.Core.List.{[]}
-use Rattle.atoms.proofs.AtomSteps.{braced_end, braced_goes, braced_name, braced_other}
+use Rattle.atoms.proofs.AtomSteps.{braced_end, braced_name, braced_other}
 use Rattle.atoms.proofs.braced.Goals as goal
 
 pub loop-at-init : goal.loop-at-init
@@ -14,26 +12,11 @@ returns-then-kind c =
     let l = c.loop-at in
     braced_end _ _ _ _ _ _ c.next_word-word.ensures l.set c.if-kind.true ∙ sym l.invariant
 
-pub slice_bounds-with_name-count : goal.slice_bounds-with_name-count
-slice_bounds-with_name-count c = let g = braced_goes [] _ _ _ _ _ c.next_word-word.ensures 0 c.if-kind.false in omega arith
-
-pub slice_bounds-with_name-start : goal.slice_bounds-with_name-start
-slice_bounds-with_name-start c = let g = braced_goes [] _ _ _ _ _ c.next_word-word.ensures 0 c.if-kind.false in omega arith
-
-pub slice_bounds-with_name-end : goal.slice_bounds-with_name-end
-slice_bounds-with_name-end c = let g = braced_goes [] _ _ _ _ _ c.next_word-word.ensures 0 c.if-kind.false in omega arith
-
-pub loop-at-smaller-then-kind-eq-NAME : goal.loop-at-smaller-then-kind-eq-NAME
-loop-at-smaller-then-kind-eq-NAME c = let g = braced_goes [] _ _ _ _ _ c.next_word-word.ensures 0 c.if-kind.false in omega arith
-
 pub loop-at-preserved-then-kind-eq-NAME : goal.loop-at-preserved-then-kind-eq-NAME
 loop-at-preserved-then-kind-eq-NAME c =
     let w = c.next_word-word in
     let l = c.loop-at in
     l.invariant ∙ braced_name _ _ _ _ _ _ w.ensures l.set _ c.if-kind.false c.if-kind-eq-NAME.true c.with_name-set.ensures
-
-pub loop-at-smaller : goal.loop-at-smaller
-loop-at-smaller c = let g = braced_goes [] _ _ _ _ _ c.next_word-word.ensures 0 c.if-kind.false in omega arith
 
 pub loop-at-preserved : goal.loop-at-preserved
 loop-at-preserved c =

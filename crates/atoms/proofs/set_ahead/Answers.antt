@@ -1,18 +1,8 @@
 -- `atoms::set_ahead` meets its contract.
 -- Assumes nothing.
-use native.Mathlib.Omega.{arith}
 use mathlib.Core.Path.{◌∙◌}
-use Rattle.atoms.proofs.AtomSteps.{goes, set_name, set_braces, set_none}
+use Rattle.atoms.proofs.AtomSteps.{set_name, set_braces, set_none}
 use Rattle.atoms.proofs.set_ahead.Goals as goal
-
-pub slice_bounds-with_name-count : goal.slice_bounds-with_name-count
-slice_bounds-with_name-count c = let g = goes _ _ _ _ _ c.next_word-word.ensures (λ f. let e = c.if-kind-eq-NAME.true in omega arith) in omega arith
-
-pub slice_bounds-with_name-start : goal.slice_bounds-with_name-start
-slice_bounds-with_name-start c = let g = goes _ _ _ _ _ c.next_word-word.ensures (λ f. let e = c.if-kind-eq-NAME.true in omega arith) in omega arith
-
-pub slice_bounds-with_name-end : goal.slice_bounds-with_name-end
-slice_bounds-with_name-end c = let g = goes _ _ _ _ _ c.next_word-word.ensures (λ f. let e = c.if-kind-eq-NAME.true in omega arith) in omega arith
 
 pub returns-then-kind-eq-NAME : goal.returns-then-kind-eq-NAME
 returns-then-kind-eq-NAME c = c.with_name.ensures ∙ set_name _ _ _ _ _ _ c.next_word-word.ensures c.if-kind-eq-NAME.true
