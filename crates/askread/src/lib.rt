@@ -40,11 +40,9 @@ fn ask_table(
     ensures { Appended out.old out.new 0 (table_answer text.now names.now commands.now classes.now sheet.old fields.now) result }
 {
     let mut table = blank();
-    let d = decode(first_field(fields), &mut table);
-    let n = d.length;
-    if !d.right {
+    let Some(n) = decode(first_field(fields), &mut table) else {
         return bad_line(out);
-    }
+    };
     put_text(text, names, commands, classes, sheet, &mut table[..n], out)
 }
 
@@ -60,11 +58,9 @@ fn ask_buffers(
     ensures { Appended out.old out.new 0 (buffer_answer text.now names.now commands.now classes.now fields.now) result }
 {
     let mut sheet = blank();
-    let d = decode(first_field(fields), &mut sheet);
-    let n = d.length;
-    if !d.right {
+    let Some(n) = decode(first_field(fields), &mut sheet) else {
         return bad_line(out);
-    }
+    };
     ask_table(
         text,
         names,
@@ -81,11 +77,9 @@ fn ask_classes(text: &[u8], names: &[u8], commands: &[u8], fields: &[u8], out: &
     ensures { Appended out.old out.new 0 (classes_answer text.now names.now commands.now fields.now) result }
 {
     let mut classes = blank();
-    let d = decode(first_field(fields), &mut classes);
-    let n = d.length;
-    if !d.right {
+    let Some(n) = decode(first_field(fields), &mut classes) else {
         return bad_line(out);
-    }
+    };
     ask_buffers(
         text,
         names,
@@ -101,11 +95,9 @@ fn ask_commands(text: &[u8], names: &[u8], fields: &[u8], out: &mut [u8]) -> usi
     ensures { Appended out.old out.new 0 (commands_answer text.now names.now fields.now) result }
 {
     let mut commands = blank();
-    let d = decode(first_field(fields), &mut commands);
-    let n = d.length;
-    if !d.right {
+    let Some(n) = decode(first_field(fields), &mut commands) else {
         return bad_line(out);
-    }
+    };
     ask_classes(text, names, &commands[..n], other_fields(fields), out)
 }
 
@@ -114,10 +106,8 @@ pub fn ask_names(text: &[u8], fields: &[u8], out: &mut [u8]) -> usize
     ensures { Appended out.old out.new 0 (text_answer text.now fields.now) result }
 {
     let mut names = blank();
-    let d = decode(first_field(fields), &mut names);
-    let n = d.length;
-    if !d.right {
+    let Some(n) = decode(first_field(fields), &mut names) else {
         return bad_line(out);
-    }
+    };
     ask_commands(text, &names[..n], other_fields(fields), out)
 }
