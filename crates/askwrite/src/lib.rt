@@ -44,11 +44,9 @@ fn ask_buffer(
     ensures { Appended out.old out.new 0 (buffer_answer sheet.now own_name.now own_states.now names.now commands.now classes.now fields.now) result }
 {
     let mut lent = blank();
-    let d = decode(first_field(fields), &mut lent);
-    let n = d.length;
-    if !d.right {
+    let Some(n) = decode(first_field(fields), &mut lent) else {
         return bad_line(out);
-    }
+    };
     put_written(
         sheet,
         own_name,
@@ -74,11 +72,9 @@ fn ask_classes(
     ensures { Appended out.old out.new 0 (classes_answer sheet.now own_name.now own_states.now names.now commands.now fields.now) result }
 {
     let mut classes = blank();
-    let d = decode(first_field(fields), &mut classes);
-    let n = d.length;
-    if !d.right {
+    let Some(n) = decode(first_field(fields), &mut classes) else {
         return bad_line(out);
-    }
+    };
     ask_buffer(
         sheet,
         own_name,
@@ -103,11 +99,9 @@ fn ask_commands(
     ensures { Appended out.old out.new 0 (commands_answer sheet.now own_name.now own_states.now names.now fields.now) result }
 {
     let mut commands = blank();
-    let d = decode(first_field(fields), &mut commands);
-    let n = d.length;
-    if !d.right {
+    let Some(n) = decode(first_field(fields), &mut commands) else {
         return bad_line(out);
-    }
+    };
     ask_classes(
         sheet,
         own_name,
@@ -130,11 +124,9 @@ fn ask_names(
     ensures { Appended out.old out.new 0 (names_answer sheet.now own_name.now own_states.now fields.now) result }
 {
     let mut names = blank();
-    let d = decode(first_field(fields), &mut names);
-    let n = d.length;
-    if !d.right {
+    let Some(n) = decode(first_field(fields), &mut names) else {
         return bad_line(out);
-    }
+    };
     ask_commands(
         sheet,
         own_name,
@@ -150,11 +142,9 @@ fn ask_own_states(sheet: &[u8], own_name: &[u8], fields: &[u8], out: &mut [u8]) 
     ensures { Appended out.old out.new 0 (own_states_answer sheet.now own_name.now fields.now) result }
 {
     let mut own_states = blank();
-    let d = decode(first_field(fields), &mut own_states);
-    let n = d.length;
-    if !d.right {
+    let Some(n) = decode(first_field(fields), &mut own_states) else {
         return bad_line(out);
-    }
+    };
     ask_names(sheet, own_name, &own_states[..n], other_fields(fields), out)
 }
 
@@ -163,10 +153,8 @@ pub fn ask_own_name(sheet: &[u8], fields: &[u8], out: &mut [u8]) -> usize
     ensures { Appended out.old out.new 0 (own_name_answer sheet.now fields.now) result }
 {
     let mut own_name = blank();
-    let d = decode(first_field(fields), &mut own_name);
-    let n = d.length;
-    if !d.right {
+    let Some(n) = decode(first_field(fields), &mut own_name) else {
         return bad_line(out);
-    }
+    };
     ask_own_states(sheet, &own_name[..n], other_fields(fields), out)
 }
