@@ -14,8 +14,7 @@ use Rattle.model.specs.Replies.{Answered}
 use Rattle.bargewicker.specs.Numbers.{values, numbers_for}
 use Rattle.texts.specs.Texts.{Appended}
 use Rattle.texts.specs.Fields.{occurs, number_of}
-use Rattle.texts.specs.declared.reading.Number.{Number}
-use Rattle.texts.specs.declared.reading.Number.TheVariants.{Is, Bad}
+use Rattle.std.specs.Prelude.{Some, None}
 use Rattle.lines.specs.Lines.{bad_line, judge_text, probe_text, phase_line, command_line, loop_line}
 use Rattle.strings.specs.Strings.{first, others}
 use Rattle.asking.specs.Asking.{judge_verb, loop_verb, probe_verb, phase_verb, command_verb, read_verb, write_verb, same_bytes, is_form, verb_of, on_number, with_number, line_of, sending_from, placed_answer, sheet_answer, fields_answer, answer_line}
@@ -90,15 +89,15 @@ module _ (v : List ℕ) (n : ℕ) where
 -- ---- fields
 
 -- a number, wrong or read
-module _ (l m : List ℕ) (end : ℕ) (f field : List ℕ) (r : Number) (rest : ℕ → List ℕ → List ℕ) (e : field ≡ first f) (v : r ≡ number_of field) where
-  pub number_wrong : r ≡ Bad → Appended l m 0 bad_line end → Appended l m 0 (with_number f rest) end
+module _ (l m : List ℕ) (end : ℕ) (f field : List ℕ) (rest : ℕ → List ℕ → List ℕ) (e : field ≡ first f) where
+  pub number_wrong : None ≡ number_of field → Appended l m 0 bad_line end → Appended l m 0 (with_number f rest) end
   unfolding with_number on_number
-  number_wrong h a = let g : number_of (first f) ≡ Bad = ap number_of (sym e) ∙ sym v ∙ h in rw g a
+  number_wrong h a = let g : number_of (first f) ≡ None = ap number_of (sym e) ∙ sym h in rw g a
 
-  pub number_read : (n : ℕ) → r ≡ Is n → (g : List ℕ) → g ≡ others f → Appended l m 0 (rest n g) end → Appended l m 0 (with_number f rest) end
+  pub number_read : (n : ℕ) → Some n ≡ number_of field → (g : List ℕ) → g ≡ others f → Appended l m 0 (rest n g) end → Appended l m 0 (with_number f rest) end
   unfolding with_number on_number
   number_read n h g x a =
-      let y : number_of (first f) ≡ Is n = ap number_of (sym e) ∙ sym v ∙ h in
+      let y : number_of (first f) ≡ Some n = ap number_of (sym e) ∙ sym h in
       let z : Appended l m 0 (rest n (others f)) end = rw x at a in
       rw y z
 

@@ -2,14 +2,12 @@
 -- `command SHEET LIST STATE COMMAND BUFFER`, `loop SHEET PRESENT BUFFER`, `read TEXT NAMES COMMANDS CLASSES SHEET TABLE`,
 -- `write SHEET OWNNAME OWNSTATES NAMES COMMANDS CLASSES BUFFER`, the fields parted by one space; of any other line `bad line`.
 -- Assumes nothing.
-use Rattle.std.specs.Prelude.{ℕ, Bool, true, false, ◌&&◌, List, [], ◌∷◌, eqb, leb, length}
+use Rattle.std.specs.Prelude.{ℕ, Bool, true, false, ◌&&◌, List, [], ◌∷◌, eqb, leb, length, Option, Some, None}
 use Rattle.model.specs.Words.{choose}
 use Rattle.model.specs.Replies.{buffer_after}
 use Rattle.bargewicker.specs.Questions.{Question, judge, probe_in, phase_from, command_in, loop_with, text_of, reply}
 use Rattle.bargewicker.specs.Numbers.{numbers_for}
 use Rattle.texts.specs.Fields.{occurs, number_of}
-use Rattle.texts.specs.declared.reading.Number.{Number}
-use Rattle.texts.specs.declared.reading.Number.TheVariants.{Is, Bad}
 use Rattle.lines.specs.Lines.{bad_line, judge_text, probe_text, phase_line, command_line, loop_line}
 use Rattle.strings.specs.Strings.{first, others, with_string}
 use Rattle.askread.specs.AskRead.{text_answer}
@@ -65,9 +63,9 @@ verb_of verb n =
     choose (is_form verb write_verb n 7) (λ _. W.Write) λ _. W.Other
 
 -- the first of some fields as a number from 0 to 255
-unfoldable pub on_number : Number → (ℕ → List ℕ) → List ℕ
-on_number (Is n) rest = rest n
-on_number Bad rest = bad_line
+unfoldable pub on_number : Option ℕ → (ℕ → List ℕ) → List ℕ
+on_number (Some n) rest = rest n
+on_number None rest = bad_line
 
 unfoldable pub with_number : List ℕ → (ℕ → List ℕ → List ℕ) → List ℕ
 with_number f rest = on_number (number_of (first f)) (λ n. rest n (others f))

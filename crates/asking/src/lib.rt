@@ -12,7 +12,7 @@ use askwrite::ask_own_name;
 use check::same;
 use lines::answers::{bad_line, command_line, judge_line, loop_line, phase_line, probe_line};
 use strings::blank;
-use texts::reading::{Number, count, decode, first_field, other_fields, read_number};
+use texts::reading::{count, decode, first_field, other_fields, read_number};
 
 // The questions of a child list and a state.
 #[derive(Clone, Copy)]
@@ -127,11 +127,9 @@ fn ask_sending(
     ensures { Appended out.old out.new 0 (sending_answer sending sheet.now list.now state fields.now) result }
 {
     let mut lent = blank();
-    let b = decode(first_field(fields), &mut lent);
-    let n = b.length;
-    if !b.right {
+    let Some(n) = decode(first_field(fields), &mut lent) else {
         return bad_line(out);
-    }
+    };
     put_sending(sending, sheet, list, state, &mut lent[..n], out)
 }
 
@@ -139,8 +137,7 @@ fn ask_sending(
 fn ask_command(sheet: &[u8], list: &[u8], state: u8, fields: &[u8], out: &mut [u8]) -> usize
     ensures { Appended out.old out.new 0 (command_answer sheet.now list.now state fields.now) result }
 {
-    let asked = read_number(first_field(fields));
-    let Number::Is(command) = asked else {
+    let Some(command) = read_number(first_field(fields)) else {
         return bad_line(out);
     };
     ask_sending(
@@ -175,8 +172,7 @@ fn ask_placed(
 fn ask_state(asked: Asked, sheet: &[u8], list: &[u8], fields: &[u8], out: &mut [u8]) -> usize
     ensures { Appended out.old out.new 0 (state_answer asked sheet.now list.now fields.now) result }
 {
-    let number = read_number(first_field(fields));
-    let Number::Is(state) = number else {
+    let Some(state) = read_number(first_field(fields)) else {
         return bad_line(out);
     };
     ask_placed(asked, sheet, list, state, other_fields(fields), out)
@@ -187,11 +183,9 @@ fn ask_list(asked: Asked, sheet: &[u8], fields: &[u8], out: &mut [u8]) -> usize
     ensures { Appended out.old out.new 0 (list_answer asked sheet.now fields.now) result }
 {
     let mut list = blank();
-    let l = decode(first_field(fields), &mut list);
-    let n = l.length;
-    if !l.right {
+    let Some(n) = decode(first_field(fields), &mut list) else {
         return bad_line(out);
-    }
+    };
     ask_state(asked, sheet, &list[..n], other_fields(fields), out)
 }
 
@@ -207,16 +201,13 @@ fn put_loop(sheet: &[u8], present: u8, lent: &mut [u8], out: &mut [u8]) -> usize
 fn ask_loop(sheet: &[u8], fields: &[u8], out: &mut [u8]) -> usize
     ensures { Appended out.old out.new 0 (loop_answer sheet.now fields.now) result }
 {
-    let asked = read_number(first_field(fields));
-    let Number::Is(present) = asked else {
+    let Some(present) = read_number(first_field(fields)) else {
         return bad_line(out);
     };
     let mut lent = blank();
-    let b = decode(first_field(other_fields(fields)), &mut lent);
-    let n = b.length;
-    if !b.right {
+    let Some(n) = decode(first_field(other_fields(fields)), &mut lent) else {
         return bad_line(out);
-    }
+    };
     put_loop(sheet, present, &mut lent[..n], out)
 }
 
@@ -239,11 +230,9 @@ fn ask_fields(verb: Verb, fields: &[u8], out: &mut [u8]) -> usize
     ensures { Appended out.old out.new 0 (fields_answer verb fields.now) result }
 {
     let mut sheet = blank();
-    let s = decode(first_field(fields), &mut sheet);
-    let n = s.length;
-    if !s.right {
+    let Some(n) = decode(first_field(fields), &mut sheet) else {
         return bad_line(out);
-    }
+    };
     ask_sheet(verb, &sheet[..n], other_fields(fields), out)
 }
 

@@ -6,8 +6,8 @@ use Rattle.asking.proofs.ask_command.Goals as goal
 
 pub returns-in_default : goal.returns-in_default
 unfolding command_answer
-returns-in_default c = number_wrong _ _ _ _ _ _ _ c.first_field.ensures c.read_number-asked.ensures c.in_default.is c.bad_line.ensures
+returns-in_default c = number_wrong _ _ _ _ _ _ c.first_field.ensures c.in_default.ensures c.bad_line.ensures
 
 pub returns : goal.returns
 unfolding command_answer
-returns c = number_read _ _ _ _ _ _ _ c.first_field.ensures c.read_number-asked.ensures _ c.in-Is.is _ c.other_fields.ensures c.ask_sending.ensures
+returns c = number_read _ _ _ _ _ _ c.first_field.ensures _ c.in-Some.ensures _ c.other_fields.ensures c.ask_sending.ensures

@@ -8,12 +8,12 @@ use Rattle.asking.proofs.ask_loop.Goals as goal
 
 pub returns-in_default : goal.returns-in_default
 unfolding loop_answer
-returns-in_default c = number_wrong _ _ _ _ _ _ _ c.first_field.ensures c.read_number-asked.ensures c.in_default.is c.bad_line.ensures
+returns-in_default c = number_wrong _ _ _ _ _ _ c.first_field.ensures c.in_default.ensures c.bad_line.ensures
 
-pub returns-then-not-b : goal.returns-then-not-b
+pub returns-in_default-decode : goal.returns-in_default-decode
 unfolding loop_answer
-returns-then-not-b c = number_read _ _ _ _ _ _ _ c.first_field.ensures c.read_number-asked.ensures _ c.in-Is.is _ c.other_fields.ensures (string_wrong _ _ _ _ _ _ _ _ _ c.first_field-2.ensures c.decode-b.ensures.decoded c.blank-lent.ensures c.if-not-b.true c.bad_line-then-not-b.ensures)
+returns-in_default-decode c = number_read _ _ _ _ _ _ c.first_field.ensures _ c.in-Some.ensures _ c.other_fields.ensures (string_wrong _ _ _ _ _ _ _ _ c.first_field-2.ensures c.blank-lent.ensures c.in_default-decode.ensures.decoded c.bad_line-in_default-decode.ensures)
 
 pub returns : goal.returns
 unfolding loop_answer
-returns c = number_read _ _ _ _ _ _ _ c.first_field.ensures c.read_number-asked.ensures _ c.in-Is.is _ c.other_fields.ensures (string_read _ _ _ _ _ _ _ _ _ c.first_field-2.ensures c.decode-b.ensures.decoded c.blank-lent.ensures c.decode-b.ensures.within.0 c.if-not-b.false _ refl c.put_loop.ensures)
+returns c = number_read _ _ _ _ _ _ c.first_field.ensures _ c.in-Some.ensures _ c.other_fields.ensures (string_read _ _ _ _ _ _ _ _ c.first_field-2.ensures c.blank-lent.ensures _ c.in-Some-decode.ensures.within.0 c.in-Some-decode.ensures.decoded _ refl c.put_loop.ensures)
