@@ -8,6 +8,7 @@
 // none of these, or longer than 1,048,576 bytes, is answered `bad line`. A line is answered by `asking`.
 #![tactic(auto)]
 
+ghost use Rattle.std.specs.Prelude.{IfSome};
 ghost use Rattle.io.specs.Counts.{IsPrefixLen};
 ghost use Rattle.questions.specs.Inputs.{Inside};
 
@@ -16,13 +17,12 @@ use std::io::{Read, Stdin};
 use texts::reading::find;
 use texts::writing::{append_byte, append_bytes};
 
-// How far the input is taken: the next byte of the chunk, the chunk's bytes, the bytes of the line so far, which wait for its end; and whether it is over.
+// How far the input is taken: the next byte of the chunk, the chunk's bytes, and the bytes of the line so far, which wait for its end.
 #[derive(Clone, Copy)]
 pub struct Input {
     pub at: usize,
     pub end: usize,
     pub waiting: usize,
-    pub over: bool,
 }
 
 // Answers a line, of which at most one byte too many was taken.
@@ -33,9 +33,15 @@ fn respond(line: &[u8], out: &mut [u8]) -> bool {
 }
 
 // The next chunk. Where there is none, the input is over, and a last line may have ended with no line feed.
-fn refill(mut stdin: Stdin, waiting: usize, chunk: &mut [u8], line: &[u8], out: &mut [u8]) -> Input
+fn refill(
+    mut stdin: Stdin,
+    waiting: usize,
+    chunk: &mut [u8],
+    line: &[u8],
+    out: &mut [u8],
+) -> Option<Input>
     requires { IsPrefixLen waiting line.now }
-    ensures { Inside result chunk.new line.now }
+    ensures { IfSome result (λ s. Inside s chunk.new line.now) }
 {
     let got = stdin.read(chunk);
     let n = got.unwrap_or(0);
@@ -43,25 +49,20 @@ fn refill(mut stdin: Stdin, waiting: usize, chunk: &mut [u8], line: &[u8], out: 
         if 0 < waiting {
             respond(&line[..waiting], out);
         }
-        return Input {
-            at: 0,
-            end: 0,
-            waiting: 0,
-            over: true,
-        };
+        return None;
     }
-    Input {
+    Some(Input {
         at: 0,
         end: n,
         waiting,
-        over: false,
-    }
+    })
 }
 
-// One turn: a further chunk is read, or the bytes up to a line feed or the chunk's end are taken, and a line that is whole is answered.
-fn turn(stdin: Stdin, s: Input, chunk: &mut [u8], line: &mut [u8], out: &mut [u8]) -> Input
+// One turn: a further chunk is read, or the bytes up to a line feed or the chunk's end are taken, and a line that is whole is answered. None
+// where the input is over, or an answer was not taken.
+fn turn(stdin: Stdin, s: Input, chunk: &mut [u8], line: &mut [u8], out: &mut [u8]) -> Option<Input>
     requires { Inside s chunk.old line.old }
-    ensures { Inside result chunk.new line.new }
+    ensures { IfSome result (λ t. Inside t chunk.new line.new) }
 {
     let at = s.at;
     let end = s.end;
@@ -69,26 +70,26 @@ fn turn(stdin: Stdin, s: Input, chunk: &mut [u8], line: &mut [u8], out: &mut [u8
     if at == end {
         return refill(stdin, waiting, chunk, line, out);
     }
-    let stop = find(&chunk[..end], at, b'\n');
-    let taken = append_bytes(line, waiting, &chunk[at..stop]);
-    if stop == end {
-        return Input {
+    let Some(stop) = find(&chunk[..end], at, b'\n') else {
+        let taken = append_bytes(line, waiting, &chunk[at..end]);
+        return Some(Input {
             at: end,
             end,
             waiting: taken,
-            over: false,
-        };
+        });
+    };
+    let taken = append_bytes(line, waiting, &chunk[at..stop]);
+    if !respond(&line[..taken], out) {
+        return None;
     }
-    let written = respond(&line[..taken], out);
-    Input {
+    Some(Input {
         at: stop + 1,
         end,
         waiting: 0,
-        over: !written,
-    }
+    })
 }
 
-// A proved loop has to end, and nothing says that the input does: the turns are counted down from a number that no run uses up.
+// A proved loop has to end, and nothing says that the input does: the turns are counted up to a number that no run comes to.
 fn main(rt: HostRuntime) {
     let mut chunk = [0u8; 65536];
     let mut line = [0u8; 1048577];
@@ -97,14 +98,11 @@ fn main(rt: HostRuntime) {
         at: 0,
         end: 0,
         waiting: 0,
-        over: false,
     };
-    let mut turns = u64::MAX;
-    while 0 < turns {
-        if s.over {
+    for _ in 0..u64::MAX {
+        let Some(next) = turn(rt.stdin(), s, &mut chunk, &mut line, &mut out) else {
             return;
-        }
-        s = turn(rt.stdin(), s, &mut chunk, &mut line, &mut out);
-        turns = turns - 1;
+        };
+        s = next;
     }
 }
