@@ -13,7 +13,8 @@ use model::ChildName;
 use records::sets::has_name;
 use words::next_word;
 
-// The number of a name in a list; where it is not there, that of the list's records.
+// The number of a name in a list; where it is not there, that of the list's records. It is a number in either case, since `pattern_in` and
+// `with_name` of ordering/specs/Ordering go by the number that `number_in` of naming/specs/NameLists gives.
 fn number(list: &[u8], size: usize, word: &[u8]) -> usize
     requires { 32 ≤ size }
     ensures { result ≡ number_in (records_in size list.now) word.now }
@@ -25,7 +26,7 @@ fn number(list: &[u8], size: usize, word: &[u8]) -> usize
     }
 }
 
-// The pattern of a kin: the number of its class, or 255.
+// The pattern of a kin: the number of its class, or 255, as `pattern_number` of encoding/specs/Encoding has it.
 fn pattern_in(classes: &[u8], kind: u8, word: &[u8]) -> u8
     ensures { result ≡ pattern_in (records_in 36 classes.now) (token_as kind word.now) }
 {
@@ -57,6 +58,7 @@ fn braced(text: &[u8], at: usize, names: &[u8]) -> u32
 {
     let mut set: u32 = 0;
     let mut i = at;
+    // No count: a step is a word long.
     loop {
         let word = next_word(text, i);
         let kind = word.kind;

@@ -141,6 +141,7 @@ pub fn order_guards(text: &[u8], names: &[u8], classes: &[u8], bytes: &mut [u8])
         count: 0,
     };
     let mut at = 0;
+    // No count: a step is a word long.
     loop {
         let word = next_word(text, at);
         let kind = word.kind;

@@ -24,6 +24,7 @@ fn watch(text: &[u8], from: usize, to: usize, ifs: usize) -> bool
     let mut at = from;
     let mut level: usize = 0;
     let mut seen = false;
+    // No count: a step is a word long.
     while at < to {
         let word = words::next_word(text, at);
         let kind = word.kind;
@@ -87,6 +88,7 @@ pub fn first_wrong(text: &[u8]) -> Result<(), usize>
     };
     let mut from: usize = 0;
     let mut at: usize = 0;
+    // No count: a step is a word long.
     loop {
         let word = words::next_word(text, at);
         let kind = word.kind;
