@@ -11,7 +11,7 @@ use mathlib.Core.Logic.{inr}
 use lib.Seq.{sets}
 use Rattle.naming.proofs.TableLaws as Table
 use borrow.Author.Tests.{lt-leb, le-leb, leb-true}
-use Rattle.std.specs.Prelude.{Ok, Err}
+use Rattle.std.specs.Prelude.{Result, Ok, Err}
 use Rattle.model.specs.declared.Misread.TheVariants.{Refused, WrongWord}
 use Rattle.model.specs.Answers.{ReadAnswer}
 use Rattle.model.proofs.Words.{and_left, and_right, and_both}
@@ -22,8 +22,6 @@ use Rattle.records.specs.Bytes.{u32}
 use Rattle.grammar.specs.Grammar.{Text}
 use Rattle.grammar.specs.Reading.{Says, WrongAt}
 use Rattle.recognised.specs.Recognised.{Recognised}
-use Rattle.recognised.specs.declared.Found.{Found}
-use Rattle.recognised.specs.declared.Found.TheVariants.{Wrong, Fine}
 use Rattle.model.specs.declared.Refusal.TheVariants.{Room, Naming, Limit}
 use Rattle.naming.specs.NameLists.{Lists, class_sets, class_names, child_names, command_names, records_in, lists_right, lists_within, padded}
 use Rattle.lists.specs.Lent.{sets_in}
@@ -55,15 +53,15 @@ use Rattle.readings.specs.Promise.{Answered}
 use Rattle.reading.specs.Ways.{OfText, OfKnown, OfWithin}
 
 -- 16
-pub found_wrong : (q : Lent) (f : Found) (p : ℕ) → Recognised q.text f → f ≡ Wrong p → Answered q (Err (WrongWord p)) q.sheet q.table
+pub found_wrong : (q : Lent) (f : Result (Unit {0}) ℕ) (p : ℕ) → Recognised q.text f → f ≡ Err p → Answered q (Err (WrongWord p)) q.sheet q.table
 unfolding Recognised
 found_wrong q f p r e = let w : WrongAt q.text p = rw e at r in goes_wrong q p w
 
 -- a text of the grammar
-pub found_fine : (q : Lent) (f : Found) (a : ReadAnswer) (sheet table : List ℕ) → Recognised q.text f → f ≡ Fine → OfText q a sheet table
+pub found_fine : (q : Lent) (f : Result (Unit {0}) ℕ) (u : Unit {0}) (a : ReadAnswer) (sheet table : List ℕ) → Recognised q.text f → f ≡ Ok u → OfText q a sheet table
     → Answered q a sheet table
 unfolding Recognised
-found_fine q f a sheet table r e o = let w : (t : Text) × Says q.text t = rw e at r in o w.0 w.1
+found_fine q f u a sheet table r e o = let w : (t : Text) × Says q.text t = rw e at r in o w.0 w.1
 
 -- what the sizes say of the room
 sheet_long : (q : Lent) (t : Text) (n : Sizes) → Within (class_for q t) → n ≡ sizes_in (class_for q t)

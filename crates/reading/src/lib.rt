@@ -11,7 +11,7 @@ use lent::lists_right;
 use limits::{all_shallow, few_enough};
 use model::{Misread, Refusal};
 use prefixed::walks::order_guards;
-use recognised::{Found, first_wrong};
+use recognised::first_wrong;
 use sheets::{sheet_length, table_length, write_sheet};
 use sizes::{Sizes, sizes_of};
 
@@ -26,11 +26,10 @@ pub fn read_class(
 ) -> Result<(usize, usize), Misread>
     ensures { Answered (asked text.now names.now commands.now classes.now sheet.old table.old) result sheet.new table.new }
 {
-    let found = first_wrong(text);
-    match found {
-        Found::Wrong(place) => Err(Misread::WrongWord(place)),
-        Found::Fine => read_text(text, names, commands, classes, sheet, table),
+    if let Err(place) = first_wrong(text) {
+        return Err(Misread::WrongWord(place));
     }
+    read_text(text, names, commands, classes, sheet, table)
 }
 
 // 17, by the lists and by the names of the text.

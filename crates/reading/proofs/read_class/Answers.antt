@@ -3,8 +3,8 @@
 use Rattle.reading.proofs.Answering.{found_wrong, found_fine}
 use Rattle.reading.proofs.read_class.Goals as goal
 
-pub returns-in-Wrong : goal.returns-in-Wrong
-returns-in-Wrong c = found_wrong _ _ _ c.first_wrong-found.ensures c.in-Wrong.is
+pub returns-in-Err : goal.returns-in-Err
+returns-in-Err c = found_wrong _ _ _ c.first_wrong.ensures c.in-Err.is
 
-pub returns-in-Fine : goal.returns-in-Fine
-returns-in-Fine c = found_fine _ _ c.read_text.result _ _ c.first_wrong-found.ensures c.in-Fine.is c.read_text.ensures
+pub returns : goal.returns
+returns c = found_fine _ _ _ c.read_text.result _ _ c.first_wrong.ensures c.in_default.is c.read_text.ensures
