@@ -94,26 +94,18 @@ pub fn put_part(
     ensures { PutsPart g.now part.now level own.now (lent names.now commands.now classes.now) out.old at out.new result }
 {
     let front = statement_record(part);
-    match front {
+    let next = match front {
         StatementRecord::Do(command, pattern) => {
-            let next = put_do(out, at, level, commands, classes, command, pattern);
-            let rest = behind_statement(front, part);
-            put_part(g, rest, level, own, names, commands, classes, out, next)
+            put_do(out, at, level, commands, classes, command, pattern)
         }
-        StatementRecord::MoveTo(to) => {
-            let next = put_move(out, at, level, own, to);
-            let rest = behind_statement(front, part);
-            put_part(g, rest, level, own, names, commands, classes, out, next)
-        }
-        StatementRecord::If(branch) => {
-            let next = put_if(
-                g, branch, part, level, own, names, commands, classes, out, at,
-            );
-            let rest = behind_statement(front, part);
-            put_part(g, rest, level, own, names, commands, classes, out, next)
-        }
-        StatementRecord::Unknown => at,
-    }
+        StatementRecord::MoveTo(to) => put_move(out, at, level, own, to),
+        StatementRecord::If(branch) => put_if(
+            g, branch, part, level, own, names, commands, classes, out, at,
+        ),
+        StatementRecord::Unknown => return at,
+    };
+    let rest = behind_statement(front, part);
+    put_part(g, rest, level, own, names, commands, classes, out, next)
 }
 
 // The if at the front of a list: its line, its then-part, its else-part where there is one, and its end.
