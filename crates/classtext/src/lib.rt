@@ -149,7 +149,7 @@ fn put_action(
     put_part(guards, part, 3, own, names, commands, classes, out, e)
 }
 
-// The action clauses of state q, in order.
+// The action clauses of state q, in order. One walk for both kinds of clauses would take what is written of each as a closure, and say it again.
 fn put_actions(
     sheet: &[u8],
     p: Places,
