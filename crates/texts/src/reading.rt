@@ -65,7 +65,7 @@ fn digit_value(byte: u8) -> Option<usize>
 fn in_range(value: usize, least: usize) -> Option<u8>
     ensures { result ≡ picked (ltb value least || ltb 255 value) None (Some value) }
 {
-    if (value < least) | (255 < value) {
+    if value < least || 255 < value {
         return None;
     }
     Some(value as u8)
