@@ -1,8 +1,7 @@
 -- Laws about crews as name sets: one child more, the pairs of a child list, and the union of the sets.
 -- Assumes nothing.
-use Prim.Native.Nat.{ℕ, zero, suc, ◌+◌, ◌-◌, ◌*◌, ◌/◌, ◌%◌, ◌^◌, ◌<◌, ◌≤◌}
+use Prim.Native.Nat.{ℕ, zero, suc, ◌+◌, ◌-◌, ◌*◌, ◌/◌, ◌^◌, ◌<◌, ◌≤◌}
 use native.Mathlib.Omega.{arith}
-use native.Mathlib.Nat.{one-mul}
 use native.Mathlib.Numerals.{add-one}
 use mathlib.Core.Path.{◌≡◌, refl, sym, ap, ◌∙◌, subst}
 use mathlib.Core.Bool.{Bool, true, false, ◌&&◌, ◌||◌, or_comm}
@@ -10,9 +9,9 @@ use mathlib.Core.List.{List, [], ◌∷◌}
 use lib.Dec.{eqb, ltb}
 use lib.Bits.{bit_or}
 use lib.ListN.{length, get_or, set, drop, replicate, get_or-replicate, length-drop, length-set, get_or-eq_default}
-use lib.Pow.{shl_exact}
 use lib.Seq.{drop-cons, get_or-set_same, get_or-set_other}
 use borrow.Author.Tests.{eqb-true, eqb-false, lt-ltb, ltb-true}
+use Rattle.std.proofs.lemmas.Nat.{or_comm as bits_comm}
 use Rattle.model.specs.Words.{has, some_in, some_below}
 use Rattle.model.specs.Tree.{Child, everyone, of_class}
 use Rattle.model.specs.Crews.{occupied}
@@ -21,10 +20,6 @@ use Rattle.children.specs.ChildList.{children_of}
 use Rattle.model.proofs.Bits.{has_none}
 use Rattle.children.specs.NameSets.{Shows, Names, seen, union_of}
 use Rattle.model.proofs.Masks.{has_or, has_pow}
-
--- `1 << n` is 2 to the n
-pub one_shifted : (s n : ℕ) → n < 32 → bit_or s (1 * 2 ^ n % 2 ^ 32) ≡ bit_or s (2 ^ n)
-one_shifted s n l = ap (bit_or s) (shl_exact 1 n 32 (omega arith) (omega arith) ∙ one-mul (2 ^ n))
 
 abbrev pub child : ℕ → ℕ → Child
 child c n = record { class = c; name = n }
@@ -131,9 +126,9 @@ union_has sets (suc n) m =
     ∙ ap (λ (b : Bool). b || has (get_or sets n 0) m) (union_has sets n m)
 
 -- one set more
-pub union_more : (sets : List ℕ) (i all : ℕ) → all ≡ union_of sets i → bit_or (get_or sets i 0) all ≡ union_of sets (i + 1)
+pub union_more : (sets : List ℕ) (i all : ℕ) → all ≡ union_of sets i → bit_or all (get_or sets i 0) ≡ union_of sets (i + 1)
 unfolding union_of
-union_more sets i all e = rw (add-one i, e)
+union_more sets i all e = rw (add-one i, e) (bits_comm (union_of sets i) (get_or sets i 0))
 
 -- the names of all children, of a class, and of a class that has no set
 pub names_all : (sets : List ℕ) (r : ℕ) → r ≡ union_of sets 8 → Names sets everyone r

@@ -8,7 +8,7 @@ use mathlib.Core.List.{List, Memᴰ}
 use mathlib.Core.Logic.{◌⊎◌, inl, inr}
 use lib.Dec.{eqb, leb, ltb}
 use lib.ListN.{length, get_or, drop, length-drop}
-use borrow.Author.Tests.{ltb-true, leb-true, lt-ltb, le-ltb, le-leb, lt-leb, eq-eqb, ne_eqb}
+use borrow.Author.Tests.{ltb-true, leb-true, le-ltb, le-leb, lt-leb, eq-eqb, ne_eqb}
 use Rattle.model.specs.Words.{has, every}
 use Rattle.model.specs.Tree.{Child}
 use Rattle.model.specs.Crews.{child_classes, in_class}
@@ -27,20 +27,6 @@ use Rattle.children.specs.NameSets.{Shows, Small}
 use Rattle.children.specs.Lists.{child_right, child_in, pairs_right}
 use Rattle.children.specs.NameSets.{Crewed}
 use Rattle.children.proofs.CrewLaws.{class_before, name_before, pair_cons, no_pair}
-
--- one child: its class is not below K, its name is not below 32, or its name is looked up
-module _ (classes : List ℕ) (i n : ℕ) where
-  pub class_past : in_fours classes ≤ i → false ≡ child_right classes i n
-  unfolding child_right
-  class_past l = rw (le-ltb i (in_fours classes) l)
-
-  pub name_past : 32 ≤ n → false ≡ child_right classes i n
-  unfolding child_right
-  name_past l = rw (le-ltb n 32 l, and-false)
-
-  pub name_told : i < in_fours classes → n < 32 → (set : ℕ) (r : Bool) → set ≡ name_set classes i → r ≡ has set n → r ≡ child_right classes i n
-  unfolding child_right
-  name_told l m set r e f = rw (f, e, lt-ltb i (in_fours classes) l, lt-ltb n 32 m)
 
 -- a turn from the last pair down: the children from pair i on are right
 pub record Checked (classes l : List ℕ) (i : ℕ) : Type 0 where

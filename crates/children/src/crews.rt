@@ -21,9 +21,7 @@ pub fn occupy(list: &[u8]) -> [u32; 8]
     ensures { Shows result (children_of list.now) }
 {
     let mut sets = [0u32; 8];
-    let mut i = list.len() / 2;
-    while 0 < i {
-        i = i - 1;
+    for i in (0..list.len() / 2).rev() {
         let class = class_at(list, 2 * i);
         let name = name_at(list, 2 * i + 1);
         let c = class.0 as usize;
@@ -39,10 +37,8 @@ fn union(sets: [u32; 8]) -> u32
     ensures { result ≡ union_of sets 8 }
 {
     let mut all = 0;
-    let mut i = 0;
-    while i < 8 {
-        all = sets[i] | all;
-        i = i + 1;
+    for set in sets {
+        all |= set;
     }
     all
 }
@@ -55,10 +51,7 @@ pub fn occupied_names(sets: [u32; 8], pattern: Pattern) -> u32
         Pattern::Everyone => union(sets),
         Pattern::OfClass(class) => {
             let i = class.0 as usize;
-            if i < 8 {
-                return sets[i];
-            }
-            0
+            if i < 8 { sets[i] } else { 0 }
         }
     }
 }

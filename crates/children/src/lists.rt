@@ -9,18 +9,13 @@ use records::sets::has_name;
 use records::words::in_fours;
 
 // The child's class is below K, and its name is below 32 and in its class.
+#[tactic(auto, unfolding(crate::specs::Lists::child_right))]
 fn child_ok(classes: &[u8], class: ChildClass, name: ChildName) -> bool
     requires { length classes.now ≤ 1024 }
     ensures { result ≡ child_right classes.now class.0 name.0 }
 {
     let i = class.0 as usize;
-    if in_fours(classes) <= i {
-        return false;
-    }
-    if 32 <= name.0 {
-        return false;
-    }
-    has_name(name_set(classes, i), name)
+    i < in_fours(classes) && name.0 < 32 && has_name(name_set(classes, i), name)
 }
 
 // No refusal 10: an even number of bytes, at most 4,096 children, each in its class.
@@ -35,9 +30,7 @@ pub fn list_ok(classes: &[u8], list: &[u8]) -> bool
     if 8192 < n {
         return false;
     }
-    let mut i = n / 2;
-    while 0 < i {
-        i = i - 1;
+    for i in (0..n / 2).rev() {
         if !child_ok(classes, class_at(list, 2 * i), name_at(list, 2 * i + 1)) {
             return false;
         }

@@ -1,18 +1,17 @@
--- `union` meets its contract. The loop's invariant: `all` is the union of the first i sets.
+-- `union` meets its contract. The loop's invariant: `all` is the union of the sets before.
 -- Assumes nothing.
 use native.Mathlib.Omega.{arith}
-use mathlib.Core.Path.{◌≡◌, ap, ◌∙◌}
-use borrow.Author.Rules.{rules}
+use mathlib.Core.Path.{◌≡◌, refl, ap, ◌∙◌}
 use Rattle.children.specs.NameSets.{union_of}
 use Rattle.children.proofs.CrewLaws.{union_more}
 use Rattle.children.proofs.crews.union.Goals as goal
 
-pub loop-i-init : goal.loop-i-init
+pub loop-set-init : goal.loop-set-init
 unfolding union_of
-loop-i-init c = search rules
+loop-set-init c = refl
 
-pub loop-i-preserved : goal.loop-i-preserved
-loop-i-preserved c = (search rules, union_more c.args.sets c.loop-i.i c.loop-i.all c.loop-i.invariant.1)
+pub loop-set-preserved : goal.loop-set-preserved
+loop-set-preserved c = union_more c.args.sets c.loop-set.set-index c.loop-set.all c.loop-set.invariant
 
 pub returns : goal.returns
-returns c = let e : c.loop-i.i ≡ 8 = omega arith in c.loop-i.invariant.1 ∙ ap (union_of c.args.sets) e
+returns c = let e : c.loop-set.set-index ≡ 8 = omega (arith, c.loop-set.auto.set-index-end, c.loop-set-test.false) in c.loop-set.invariant ∙ ap (union_of c.args.sets) e
