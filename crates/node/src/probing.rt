@@ -19,21 +19,17 @@ fn clause_holds(sheet: &[u8], p: Places, w: usize, sets: [u32; 8]) -> bool
     guard_true(body_of(sheet, p, GUARDS), place, sets)
 }
 
-// The number of the first clause, of n from the first on, whose guard is true; n where there is none.
-fn first_true(sheet: &[u8], p: Places, first: usize, n: usize, sets: [u32; 8]) -> usize
+// The number of the first clause, of n from the first on, whose guard is true.
+fn first_true(sheet: &[u8], p: Places, first: usize, n: usize, sets: [u32; 8]) -> Option<usize>
     requires { Stands sheet.now p × ((first ≤ 67108864) × (n < 65536)) }
     ensures { result ≡ first_hit sheet.now sets first n }
 {
-    let mut i = 0;
-    loop {
-        if i == n {
-            break n;
-        }
+    for i in 0..n {
         if clause_holds(sheet, p, first + i, sets) {
-            break i;
+            return Some(i);
         }
-        i = i + 1;
     }
+    None
 }
 
 // The probe of state q.
@@ -43,10 +39,6 @@ pub fn probe(sheet: &[u8], p: Places, q: OwnState, sets: [u32; 8]) -> Probed
 {
     let clauses = clauses_of(sheet, p, q, WHEN_CLAUSES);
     let first = clauses.first;
-    let n = clauses.count;
-    let hit = first_true(sheet, p, first, n, sets);
-    if hit == n {
-        return None;
-    }
+    let hit = first_true(sheet, p, first, clauses.count, sets)?;
     Some((hit, referrer_at(body_of(sheet, p, WHENS), first + hit)))
 }

@@ -10,13 +10,6 @@ use children::crews::occupied_names;
 use records::guards::{GuardRecord, Kind, Operator, guard_record};
 use records::kinds::Pattern;
 
-// A guard's truth with the record after it, or it is broken.
-#[derive(Clone, Copy)]
-pub enum Value {
-    Holds(bool, usize),
-    Broken,
-}
-
 // The truth of an atom, by mask: what is occupied in the pattern, met with the set.
 fn atom_holds(kind: Kind, pattern: Pattern, set: u32, sets: [u32; 8]) -> bool
     ensures { result ≡ atom_in sets (kind_as kind) (pattern_as pattern) set }
@@ -31,43 +24,43 @@ fn atom_holds(kind: Kind, pattern: Pattern, set: u32, sets: [u32; 8]) -> bool
     }
 }
 
-// The truth of the guard that begins at record `from`, with at most `depth` operators on a path.
+// The truth of the guard that begins at record `from`, with at most `depth` operators on a path, and the record after it; or it is broken.
 #[cycle(guard_holds_operator_holds)]
-pub fn guard_holds(g: &[u8], from: usize, depth: usize, sets: [u32; 8]) -> Value
+pub fn guard_holds(g: &[u8], from: usize, depth: usize, sets: [u32; 8]) -> Option<(bool, usize)>
     ensures { result ≡ value_of sets (guard_at depth g.now from) }
 {
     let record = guard_record(g, from);
     match record {
         GuardRecord::Atom(kind, pattern, set) => {
-            Value::Holds(atom_holds(kind, pattern, set, sets), from + 1)
+            Some((atom_holds(kind, pattern, set, sets), from + 1))
         }
         GuardRecord::Operator(operator) => operator_holds(g, from + 1, depth, operator, sets),
-        GuardRecord::Unknown => Value::Broken,
+        GuardRecord::Unknown => None,
     }
 }
 
 // The truth of an operator, whose operands begin at record `from`, left before right.
 #[cycle(guard_holds_operator_holds)]
-fn operator_holds(g: &[u8], from: usize, depth: usize, operator: Operator, sets: [u32; 8]) -> Value
+fn operator_holds(
+    g: &[u8],
+    from: usize,
+    depth: usize,
+    operator: Operator,
+    sets: [u32; 8],
+) -> Option<(bool, usize)>
     ensures { result ≡ value_of sets (joined (operands depth g.now) from (operator_as operator)) }
 {
     if depth == 0 {
-        return Value::Broken;
+        return None;
     }
-    let first = guard_holds(g, from, depth - 1, sets);
-    let Value::Holds(left, next) = first else {
-        return Value::Broken;
-    };
+    let (left, next) = guard_holds(g, from, depth - 1, sets)?;
     if let Operator::Opposite = operator {
-        return Value::Holds(!left, next);
+        return Some((!left, next));
     }
-    let second = guard_holds(g, next, depth - 1, sets);
-    let Value::Holds(right, end) = second else {
-        return Value::Broken;
-    };
+    let (right, end) = guard_holds(g, next, depth - 1, sets)?;
     match operator {
-        Operator::Both => Value::Holds(left & right, end),
-        _ => Value::Holds(left | right, end),
+        Operator::Both => Some((left & right, end)),
+        _ => Some((left | right, end)),
     }
 }
 
@@ -75,9 +68,8 @@ fn operator_holds(g: &[u8], from: usize, depth: usize, operator: Operator, sets:
 pub fn guard_true(g: &[u8], place: usize, sets: [u32; 8]) -> bool
     ensures { result ≡ truth_of sets (guard_from g.now place) }
 {
-    let value = guard_holds(g, place, 16, sets);
-    match value {
-        Value::Holds(holds, _) => holds,
-        Value::Broken => false,
+    match guard_holds(g, place, 16, sets) {
+        Some((holds, _)) => holds,
+        None => false,
     }
 }

@@ -3,13 +3,10 @@
 -- Assumes nothing.
 use native.Mathlib.Omega.{arith}
 use mathlib.Core.Path.{refl, sym, ◌∙◌, ap}
-use borrow.Enum.Refused.{opened}
 use Rattle.records.specs.Records.{operator_as, record_as}
-use Rattle.records.proofs.GuardLaws.{known_there, on_two, on_either}
-use Rattle.node.proofs.ValueLaws.{value_behind, value_as, value_atom, value_deep, value_first, value_one, value_second, value_both, value_either}
+use Rattle.records.proofs.GuardLaws.{known_there}
+use Rattle.node.proofs.ValueLaws.{value_behind, value_as, value_atom, value_deep, value_first, value_one, value_second, value_both, value_either, not_one, the_either}
 use Rattle.node.proofs.values.+guard_holds_operator_holds.Goals as goal
-
---     let a = c.before.before.args in record_as x ≡ guard_record a.g.now a.from
 
 -- an atom's end, and where an operator's operands begin, are numbers
 pub guard_holds-overflow_add-result : goal.guard_holds-overflow_add-result
@@ -40,30 +37,23 @@ guard_holds-returns-in-Unknown t c = sym (value_as _ _ _ _ (ap record_as (sym c.
 pub operator_holds-returns-then-depth-eq0 : goal.operator_holds-returns-then-depth-eq0
 operator_holds-returns-then-depth-eq0 t c = sym (value_deep _ _ _ _ _ c.if-depth-eq0.true)
 
-pub operator_holds-returns-in_default : goal.operator_holds-returns-in_default
-operator_holds-returns-in_default t c = sym (value_first _ _ _ _ _ c.if-depth-eq0.false (sym c.guard_holds-first.ensures ∙ c.in_default.is))
+pub operator_holds-returns-in_err-left : goal.operator_holds-returns-in_err-left
+operator_holds-returns-in_err-left t c = rw c.from_residual.ensures (sym (value_first _ _ _ _ _ c.if-depth-eq0.false (sym c.guard_holds.ensures ∙ c.in_err-left.was)))
 
 pub operator_holds-returns-in-Opposite : goal.operator_holds-returns-in-Opposite
-operator_holds-returns-in-Opposite t c = sym (value_one _ _ _ _ _ c.if-depth-eq0.false _ _ (sym c.guard_holds-first.ensures ∙ c.in-Holds.is) (ap operator_as c.in-Opposite.is))
+operator_holds-returns-in-Opposite t c = sym (value_one _ _ _ _ _ c.if-depth-eq0.false _ _ (sym c.guard_holds.ensures ∙ c.in_ok-left.was) (ap operator_as c.in-Opposite.is))
 
 -- the second operand begins behind where the first does
-pub operator_holds-guard_holds-second-requires : goal.operator_holds-guard_holds-second-requires
-operator_holds-guard_holds-second-requires t c =
-    let l = value_behind _ _ _ _ _ _ (sym c.guard_holds-first.ensures ∙ c.in-Holds.is) in
-    omega (arith, l)
+pub operator_holds-guard_holds-requires-2 : goal.operator_holds-guard_holds-requires-2
+operator_holds-guard_holds-requires-2 t c = let l = value_behind _ _ _ _ _ _ (sym c.guard_holds.ensures ∙ c.in_ok-left.was) in omega (arith, l)
 
-pub operator_holds-returns-in_default-second : goal.operator_holds-returns-in_default-second
-operator_holds-returns-in_default-second t c =
-    let (h, q) = on_two c.args.operator (opened c.in_default-operator.in_default-operator-own.keys2) in
-    sym (value_second _ _ _ _ _ c.if-depth-eq0.false _ _ (sym c.guard_holds-first.ensures ∙ c.in-Holds.is)
-    h q (sym c.guard_holds-second.ensures ∙ c.in_default-second.is))
+pub operator_holds-returns-in_err-right : goal.operator_holds-returns-in_err-right
+operator_holds-returns-in_err-right t c =
+    let (h, q) = not_one c.args.operator c.in_default.not-Opposite in
+    rw c.from_residual-in_err-right.ensures (sym (value_second _ _ _ _ _ c.if-depth-eq0.false _ _ (sym c.guard_holds.ensures ∙ c.in_ok-left.was) h q (sym c.guard_holds-2.ensures ∙ c.in_err-right.was)))
 
 pub operator_holds-returns-in-Both : goal.operator_holds-returns-in-Both
-operator_holds-returns-in-Both t c =
-    sym (value_both _ _ _ _ _ c.if-depth-eq0.false _ _ (sym c.guard_holds-first.ensures ∙ c.in-Holds.is)
-    _ _ (sym c.guard_holds-second.ensures ∙ c.in-Holds-second.is) (ap operator_as c.in-Both.is))
+operator_holds-returns-in-Both t c = sym (value_both _ _ _ _ _ c.if-depth-eq0.false _ _ (sym c.guard_holds.ensures ∙ c.in_ok-left.was) _ _ (sym c.guard_holds-2.ensures ∙ c.in_ok-right.was) (ap operator_as c.in-Both.is))
 
-pub operator_holds-returns-in_default-operator-2 : goal.operator_holds-returns-in_default-operator-2
-operator_holds-returns-in_default-operator-2 t c =
-    sym (value_either _ _ _ _ _ c.if-depth-eq0.false _ _ (sym c.guard_holds-first.ensures ∙ c.in-Holds.is)
-    _ _ (sym c.guard_holds-second.ensures ∙ c.in-Holds-second.is) (on_either c.args.operator (opened c.in_default-operator.in_default-operator-own.keys2) (opened c.in_default-operator-2.in_default-operator-2-own.keys2)))
+pub operator_holds-returns-in_default-operator : goal.operator_holds-returns-in_default-operator
+operator_holds-returns-in_default-operator t c = sym (value_either _ _ _ _ _ c.if-depth-eq0.false _ _ (sym c.guard_holds.ensures ∙ c.in_ok-left.was) _ _ (sym c.guard_holds-2.ensures ∙ c.in_ok-right.was) (the_either c.args.operator c.in_default.not-Opposite c.in_default-operator.not-Both))
