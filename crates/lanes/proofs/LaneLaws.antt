@@ -1,6 +1,6 @@
 -- Laws about specs/Lanes.antt: what the words of and, or, not say, the six fixed words, and the lowest lane.
 -- Assumes nothing.
-use Prim.Native.Nat.{ℕ, suc, ◌+◌, ◌-◌, ◌/◌, ◌^◌, ◌<◌, ◌≤◌}
+use Prim.Native.Nat.{ℕ, zero, suc, ◌-◌, ◌^◌, ◌<◌, ◌≤◌}
 use native.Mathlib.Omega.{arith}
 use mathlib.Core.Path.{◌≡◌, refl, sym, ap, ◌∙◌}
 use mathlib.Core.Bool.{Bool, true, false, ◌&&◌, ◌||◌, not}
@@ -8,12 +8,16 @@ use mathlib.Core.List.{List, [], ◌∷◌}
 use mathlib.Core.Option.{Option, none, some}
 use lib.Dec.{ltb}
 use lib.ListN.{get_or}
+use mir.Syntax.{w64}
+use Rattle.std.specs.Int.{bit_at, trailing_zeros}
+use Rattle.std.specs.Int.Count.{trailing_of_zero}
+use Rattle.std.proofs.lemmas.Nat.Bits.{bit_at-trailing_zeros}
 use lib.Bits.{bit_and, bit_or, and_lt, or_lt}
 use borrow.Author.Tests.{eq-eqb, ne_eqb, ltb-true}
 use Rattle.model.specs.Words.{has, each, least}
-use Rattle.model.proofs.Words.{each_elim, clash, and_left, and_right, below_next, least_found, least_not, least_some, least_none, least_told}
+use Rattle.model.proofs.Words.{each_elim, clash, and_left, and_right, least_found, least_not, least_some, least_none, least_told}
 use Rattle.model.proofs.Bits.{has_none, some_bit}
-use Rattle.model.proofs.Masks.{has_and, has_or, has_not, shifted, same_bits}
+use Rattle.model.proofs.Masks.{has_and, has_or, has_not, same_bits}
 use Rattle.lanes.specs.Lanes.{Lanes, all_lanes, opposite, lowest_lane}
 
 -- the words of and, or, not
@@ -88,20 +92,18 @@ fixed_lanes j l =
       lane = λ i m. same_is (has (get_or fixed j 0) i) (has i j) (each_elim 64 (fixed_right j) (and_right (ltb (get_or fixed j 0) (2 ^ 64)) (each 64 (fixed_right j)) row) i m);
     }
 
--- the lowest lane, lane by lane
+-- the lowest lane is the place of the lowest 1
+pub lowest_one : (w : ℕ) → w < 2 ^ 64 → trailing_zeros w64 w ≡ lowest_lane w
+unfolding lowest_lane has
+lowest_one zero s = trailing_of_zero 64 ∙ sym (rw (least_not 64 (has 0) (λ j m. has_none j)))
+lowest_one (suc n) s =
+    let (l, one, below) = bit_at-trailing_zeros w64 (suc n) (omega arith) s in
+    sym (rw (least_found 64 (has (suc n)) (trailing_zeros w64 (suc n)) l (eq-eqb (bit_at (suc n) (trailing_zeros w64 (suc n))) 1 one)
+    (λ j m. ne_eqb (bit_at (suc n) j) 1 (λ h. let z = below j m in omega arith))))
+
+-- no lane below
 abbrev pub NoneBelow : ℕ → ℕ → Type 0
 NoneBelow w i = (j : ℕ) → j < i → has w j ≡ false
-
-pub none_more : (w i : ℕ) → NoneBelow w i → (bit_and (w / 2 ^ i) 1 ≡ 1 → ⊥) → NoneBelow w (i + 1)
-none_more w i F t j l = below_next (λ j. has w j ≡ false) i F (sym (shifted w i) ∙ ne_eqb (bit_and (w / 2 ^ i) 1) 1 t) j (let z : j < suc i = omega arith in z)
-
-pub lowest_here : (w i : ℕ) → NoneBelow w i → i < 64 → bit_and (w / 2 ^ i) 1 ≡ 1 → i ≡ lowest_lane w
-unfolding lowest_lane
-lowest_here w i F l t = rw (least_found 64 (has w) i l (sym (shifted w i) ∙ eq-eqb (bit_and (w / 2 ^ i) 1) 1 t) F)
-
-pub lowest_none : (w i : ℕ) → NoneBelow w i → 64 ≤ i → 64 ≡ lowest_lane w
-unfolding lowest_lane
-lowest_none w i F l = rw (least_not 64 (has w) (λ j m. F j (omega arith)))
 
 -- a word that is not 0 has a lowest lane
 pub lowest_is : (w i : ℕ) → w < 2 ^ 64 → (w ≡ 0 → ⊥) → i ≡ lowest_lane w → (i < 64) × (has w i ≡ true) × NoneBelow w i

@@ -13,7 +13,7 @@ use lib.Dec.{eqb, eqb-suc-zero}
 use lib.ListN.{get_or}
 use lib.Bits.{bit_and, bit_or, and_step, and_block, and_zero_l, and_zero_r, and_comm}
 use lib.Pow.{pow_mono}
-use borrow.Author.Tests.{ne_eqb}
+use borrow.Author.Tests.{eq-eqb, ne_eqb}
 use Rattle.model.specs.Words.{has, choose, kept, every, some_in, some_below, listed}
 use Rattle.model.specs.Tree.{Child, Pattern, everyone, of_class, Kind, any_in, any_not_in, all_in, all_not_in, Guard, atom, both, either, opposite as not_guard}
 use Rattle.model.specs.Guards.{concerns, any_of, all_of, named_in, atom_holds, holds}
@@ -233,11 +233,11 @@ module _ {f : Child → Bool} {classes names : List ℕ} {count mask i : ℕ} (m
       let s : suc (i - 1) ≡ i = omega arith in
       rw (z, s, ← e, ← m.is)
 
-  pub masking_held : true ≡ f (child (get_or classes (i - 1) 0) (get_or names (i - 1) 0)) → Masking f classes names count (1 + 2 * mask) (i - 1)
-  masking_held e = record { within = (let w = m.within in omega arith); is = one_more true e }
+  pub masking_held : true ≡ f (child (get_or classes (i - 1) 0) (get_or names (i - 1) 0)) → Masking f classes names count (mask * 2 + 1) (i - 1)
+  masking_held e = record { within = (let w = m.within in omega arith); is = (let z : mask * 2 + 1 ≡ 1 + 2 * mask = omega arith in z ∙ one_more true e) }
 
-  pub masking_past : false ≡ f (child (get_or classes (i - 1) 0) (get_or names (i - 1) 0)) → Masking f classes names count (2 * mask) (i - 1)
-  masking_past e = record { within = (let w = m.within in omega arith); is = (let z : 2 * mask ≡ 0 + 2 * mask = omega arith in z ∙ one_more false e) }
+  pub masking_past : false ≡ f (child (get_or classes (i - 1) 0) (get_or names (i - 1) 0)) → Masking f classes names count (mask * 2) (i - 1)
+  masking_past e = record { within = (let w = m.within in omega arith); is = (let z : mask * 2 ≡ 0 + 2 * mask = omega arith in z ∙ one_more false e) }
 
 pub masking_end : {f : Child → Bool} {classes names : List ℕ} {count mask i : ℕ} → Masking f classes names count mask i → i ≤ 0 → mask ≡ marked f (cells_from classes names count)
 unfolding cells_from
@@ -254,6 +254,10 @@ pub cell_everyone : (p : Pattern) (set c n : ℕ) (b r : Bool) → r ≡ has set
 unfolding wanted concerns
 cell_everyone p set c n b r h e = rw (e, h) (beq (has set n) b)
 
-pub cell_of_class : (p : Pattern) (set c n d : ℕ) (b r : Bool) → r ≡ has set n → p ≡ of_class d → (eqb c d && Bool.beq r b) ≡ wanted p set b (child c n)
+pub cell_of_class : (p : Pattern) (set c n d : ℕ) (b r : Bool) → r ≡ has set n → p ≡ of_class d → c ≡ d → Bool.beq r b ≡ wanted p set b (child c n)
 unfolding wanted concerns
-cell_of_class p set c n d b r h e = rw (e, h, beq (has set n) b)
+cell_of_class p set c n d b r h e s = rw (e, h, eq-eqb c d s) (beq (has set n) b)
+
+pub cell_of_another : (p : Pattern) (set c n d : ℕ) (b : Bool) → p ≡ of_class d → (c ≡ d → ⊥) → eqb c d ≡ wanted p set b (child c n)
+unfolding wanted concerns
+cell_of_another p set c n d b e s = rw (e, ne_eqb c d s)

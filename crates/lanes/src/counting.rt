@@ -9,7 +9,7 @@ use configurations::Cells;
 use model::ChildClass;
 use records::kinds::Pattern;
 
-// The present classes, and of each class the mask of its cells and its lanes in the first block.
+// The present classes, and of each class the mask of its cells and its lanes in the first block: two lists, as `Counts` of specs/ has them.
 #[derive(Clone, Copy)]
 pub struct Present {
     pub classes: u8,
@@ -24,13 +24,11 @@ pub fn present_masks(cells: Cells, present: u8) -> Present
 {
     let mut masks = [0u32; 8];
     let mut lows = [0u64; 8];
-    let mut i: u8 = 0;
-    while i < 8 {
+    for i in 0..8u8 {
         let at = i as usize;
         let mask = cells_mask(cells, Pattern::OfClass(ChildClass(i)), 0, false);
         masks[at] = mask;
         lows[at] = low_word(mask);
-        i = i + 1;
     }
     Present {
         classes: present,
@@ -44,17 +42,10 @@ pub fn counted_lanes(p: Present, base: u32) -> u64
     requires { (base % 64 ≡ 0) × LowWords p.masks p.lows }
     ensures { Lanes result (in_block base (present_met p.classes p.masks 8)) }
 {
-    let classes = p.classes;
-    let masks = p.masks;
-    let lows = p.lows;
-    let mut word: u64 = 0xFFFFFFFFFFFFFFFF;
-    let mut i = 0;
-    while i < 8 {
-        let met = block_word(masks[i], lows[i], base);
-        let there = (classes >> i) & 1 == 1;
-        i = i + 1;
-        if there {
-            word = word & met;
+    let mut word = u64::MAX;
+    for i in 0..8 {
+        if (p.classes >> i) & 1 == 1 {
+            word &= block_word(p.masks[i], p.lows[i], base);
         }
     }
     word

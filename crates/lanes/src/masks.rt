@@ -21,7 +21,7 @@ fn cell_wanted(pattern: Pattern, set: u32, inside: bool, class: ChildClass, name
     let named = has_name(set, name) == inside;
     match pattern {
         Pattern::Everyone => named,
-        Pattern::OfClass(c) => (class.0 == c.0) & named,
+        Pattern::OfClass(c) => class.0 == c.0 && named,
     }
 }
 
@@ -30,22 +30,13 @@ pub fn cells_mask(cells: Cells, pattern: Pattern, set: u32, inside: bool) -> u32
     requires { (cells.count ≤ 20) × AllSmall cells }
     ensures { result ≡ marked (wanted (pattern_as pattern) set inside) (cells_of cells) }
 {
-    let classes = cells.classes;
-    let names = cells.names;
-    let mut mask: u32 = 0;
-    let mut i = cells.count;
-    while 0 < i {
-        i = i - 1;
-        if cell_wanted(
-            pattern,
-            set,
-            inside,
-            ChildClass(classes[i]),
-            ChildName(names[i]),
-        ) {
-            mask = 1 + 2 * mask;
-        } else {
-            mask = 2 * mask;
+    let mut mask = 0;
+    for i in (0..cells.count).rev() {
+        let class = ChildClass(cells.classes[i]);
+        let name = ChildName(cells.names[i]);
+        mask *= 2;
+        if cell_wanted(pattern, set, inside, class, name) {
+            mask += 1;
         }
     }
     mask
@@ -55,14 +46,10 @@ pub fn cells_mask(cells: Cells, pattern: Pattern, set: u32, inside: bool) -> u32
 pub fn low_word(mask: u32) -> u64
     ensures { Lanes result (meets mask) }
 {
-    let mut word: u64 = 0;
-    let mut j = 0;
-    while j < 6 {
-        let fixed = fixed_word(j);
-        let held = (mask >> j) & 1 == 1;
-        j = j + 1;
-        if held {
-            word = word | fixed;
+    let mut word = 0;
+    for j in 0..6 {
+        if (mask >> j) & 1 == 1 {
+            word |= fixed_word(j);
         }
     }
     word
@@ -75,5 +62,5 @@ pub fn block_word(mask: u32, low: u64, base: u32) -> u64
     if mask & base == 0 {
         return low;
     }
-    0xFFFFFFFFFFFFFFFF
+    u64::MAX
 }

@@ -19,26 +19,16 @@ pub fn fixed_word(j: usize) -> u64
     words[j]
 }
 
-// The lowest lane of a word; 64 where it has none.
+// The lowest lane of a word; 64 where it has none, as `trailing_zeros` counts.
 pub fn lowest_lane(w: u64) -> u32
     ensures { result ≡ lowest_lane w }
 {
-    let mut i: u32 = 0;
-    while i < 64 {
-        if (w >> i) & 1 == 1 {
-            return i;
-        }
-        i = i + 1;
-    }
-    64
+    w.trailing_zeros()
 }
 
 // The word at a place of a table; 0 past its end.
 pub fn word_at(words: &[u64], j: usize) -> u64
     ensures { result ≡ get_or words.now j 0 }
 {
-    if j < words.len() {
-        return words[j];
-    }
-    0
+    words.get(j).copied().unwrap_or(0)
 }

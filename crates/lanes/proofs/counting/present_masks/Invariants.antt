@@ -1,12 +1,8 @@
 -- `present_masks`: the masks and low words of the first i classes.
 -- Assumes nothing.
-use Prim.Native.Nat.{◌-◌}
 use Rattle.configurations.specs.Cells.{cells_of}
 use Rattle.lanes.proofs.CountingLaws.{Counted}
 use Rattle.lanes.proofs.counting.present_masks.Given as goal
 
 abbrev pub invariant-loop-i : goal.invariant-loop-i
 invariant-loop-i l = Counted (cells_of l.cells) l.i l.masks l.lows
-
-abbrev pub decreases-loop-i : goal.decreases-loop-i
-decreases-loop-i l = 8 - l.i

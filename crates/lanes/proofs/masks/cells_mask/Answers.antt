@@ -20,9 +20,6 @@ overflow_add-mask c = omega (arith, masking_small c.loop-i.invariant c.requires.
 pub loop-i-preserved-then-cell_wanted : goal.loop-i-preserved-then-cell_wanted
 loop-i-preserved-then-cell_wanted c = masking_held c.loop-i.invariant c.loop-i-test.true (sym c.if-cell_wanted.true ∙ c.cell_wanted.ensures)
 
-pub overflow_mul-mask-else-cell_wanted : goal.overflow_mul-mask-else-cell_wanted
-overflow_mul-mask-else-cell_wanted c = omega (arith, masking_small c.loop-i.invariant c.requires.0)
-
 pub loop-i-preserved : goal.loop-i-preserved
 loop-i-preserved c = masking_past c.loop-i.invariant c.loop-i-test.true (sym c.if-cell_wanted.false ∙ c.cell_wanted.ensures)
 

@@ -6,7 +6,4 @@ use Rattle.lanes.proofs.MaskLaws.{Masking}
 use Rattle.lanes.proofs.masks.cells_mask.Given as goal
 
 abbrev pub invariant-loop-i : goal.invariant-loop-i
-invariant-loop-i l = Masking (wanted (pattern_as l.pattern) l.set l.inside) l.classes l.names l.initial.i l.mask l.i
-
-abbrev pub decreases-loop-i : goal.decreases-loop-i
-decreases-loop-i l = l.i
+invariant-loop-i l = Masking (wanted (pattern_as l.pattern) l.set l.inside) l.cells.classes l.cells.names l.initial.i l.mask l.i
