@@ -10,7 +10,8 @@ use lanes::masks::{cells_mask, low_word};
 use records::guards::{GuardRecord, Kind, Operator, guard_record};
 use records::words::in_eights;
 
-// How the word of a record is made: its mask is met, or is not met; both operands, either, or the opposite of one.
+// How the word of a record is made: its mask is met, or is not met; both operands, either, or the opposite of one. Numbers, as `word_of` of
+// specs/ takes them.
 pub const MET: u8 = 0;
 
 pub const UNMET: u8 = 1;
@@ -21,7 +22,8 @@ pub const EITHER: u8 = 3;
 
 pub const OPPOSITE: u8 = 4;
 
-// Of each record: how its word is made, how many records its guard has, the mask of an atom and its word in the first block.
+// Of each record: how its word is made, how many records its guard has, the mask of an atom and its word in the first block; a list of each,
+// as `Planned` and `Filled` of specs/ have them.
 #[derive(Clone, Copy)]
 pub struct Plan {
     pub kinds: [u8; 1024],
@@ -36,10 +38,8 @@ fn atom_number(kind: Kind) -> u8
     ensures { result ≡ atom_number kind }
 {
     match kind {
-        Kind::AnyIn => MET,
-        Kind::AnyNotIn => MET,
-        Kind::AllIn => UNMET,
-        Kind::AllNotIn => UNMET,
+        Kind::AnyIn | Kind::AnyNotIn => MET,
+        Kind::AllIn | Kind::AllNotIn => UNMET,
     }
 }
 
@@ -69,12 +69,7 @@ fn record_number(x: GuardRecord) -> u8
 fn looks_inside(kind: Kind) -> bool
     ensures { result ≡ inside (kind_as kind) }
 {
-    match kind {
-        Kind::AnyIn => true,
-        Kind::AnyNotIn => false,
-        Kind::AllIn => false,
-        Kind::AllNotIn => true,
-    }
+    matches!(kind, Kind::AnyIn | Kind::AllNotIn)
 }
 
 // The mask of an atom; 0 of another record.
@@ -89,8 +84,7 @@ fn record_mask(x: GuardRecord, cells: Cells) -> u32
             set,
             looks_inside(kind),
         ),
-        GuardRecord::Operator(_) => 0,
-        GuardRecord::Unknown => 0,
+        GuardRecord::Operator(_) | GuardRecord::Unknown => 0,
     }
 }
 
@@ -98,17 +92,7 @@ fn record_mask(x: GuardRecord, cells: Cells) -> u32
 pub fn size_at(sizes: &[u16], j: usize) -> usize
     ensures { (result ≡ get_or sizes.now j 0) × (result < 65536) }
 {
-    if j < sizes.len() {
-        return wide(sizes[j]);
-    }
-    0
-}
-
-// A size as a number to count with.
-fn wide(x: u16) -> usize
-    ensures { (result ≡ x) × (result < 65536) }
-{
-    x as usize
+    usize::from(sizes.get(j).copied().unwrap_or(0))
 }
 
 // How many records the guard of an operator at record i has: its right operand begins where its left one ends.
@@ -119,8 +103,7 @@ fn operator_size(operator: Operator, i: usize, sizes: &[u16]) -> usize
     let left = size_at(sizes, i + 1);
     let right = size_at(sizes, i + 1 + left);
     match operator {
-        Operator::Both => 1 + left + right,
-        Operator::Either => 1 + left + right,
+        Operator::Both | Operator::Either => 1 + left + right,
         Operator::Opposite => 1 + left,
     }
 }
@@ -131,9 +114,8 @@ fn record_size(x: GuardRecord, i: usize, sizes: &[u16]) -> usize
     ensures { result ≡ record_size x i sizes.now }
 {
     match x {
-        GuardRecord::Atom(_, _, _) => 1,
         GuardRecord::Operator(operator) => operator_size(operator, i, sizes),
-        GuardRecord::Unknown => 1,
+        GuardRecord::Atom(..) | GuardRecord::Unknown => 1,
     }
 }
 
@@ -147,9 +129,7 @@ pub fn plan_guards(g: &[u8], cells: Cells) -> Plan
     let mut sizes = [0u16; 1024];
     let mut masks = [0u32; 1024];
     let mut lows = [0u64; 1024];
-    let mut i = count;
-    while 0 < i {
-        i = i - 1;
+    for i in (0..count).rev() {
         let record = guard_record(g, i);
         let size = record_size(record, i, &sizes);
         let mask = record_mask(record, cells);

@@ -11,7 +11,7 @@ pub loop-i-preserved : goal.loop-i-preserved
 loop-i-preserved c =
     let F = c.loop-i.invariant.1 in
     let i = c.loop-i.i in
-    (omega arith, filled_more _ i _ (omega arith) _ _ _ _ _ _ _ _ F (omega arith) (omega (arith, F.long)) c.record_word-word.ensures)
+    (omega arith, filled_more _ i _ (omega arith) _ _ _ _ _ _ _ _ F (omega arith) (omega (arith, F.long)) c.record_word.ensures)
 
 pub returns : goal.returns
 returns c = filled_all _ _ _ _ _ _ _ _ _ c.loop-i.invariant.1 c.loop-i-test.false

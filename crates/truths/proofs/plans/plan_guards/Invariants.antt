@@ -6,6 +6,3 @@ use Rattle.truths.proofs.plans.plan_guards.Given as goal
 
 abbrev pub invariant-loop-i : goal.invariant-loop-i
 invariant-loop-i l = Planning l.g (cells_of l.cells) l.count l.kinds l.sizes l.masks l.lows l.i
-
-abbrev pub decreases-loop-i : goal.decreases-loop-i
-decreases-loop-i l = l.i
