@@ -1,17 +1,16 @@
 -- Laws about statements run on a set of lanes: lanes added to a row, one run after the other, the split by a guard's word, and a law for each
 -- way out of the code.
 -- Assumes nothing.
-use Prim.Native.Nat.{ℕ, ◌+◌, ◌-◌, ◌*◌, ◌^◌, ◌<◌, ◌≤◌}
+use Prim.Native.Nat.{ℕ, ◌+◌, ◌*◌, ◌^◌, ◌<◌, ◌≤◌}
 use native.Mathlib.Omega.{arith}
 use native.Mathlib.Decide.{ℕ_discrete}
 use mathlib.Core.Path.{◌≡◌, refl, sym, ap, ◌∙◌}
 use mathlib.Core.Bool.{Bool, true, false, ◌&&◌, ◌||◌, not, and-true, and-false, or-false}
 use mathlib.Core.List.{List}
-use mathlib.Core.Logic.{◌⊎◌, inl, inr}
 use mathlib.Core.Option.{Option, none, some}
 use lib.Dec.{eqb}
-use lib.ListN.{length, get_or, set, drop, take, length-set, length-drop, drop_of_length-le}
-use lib.Seq.{get_or-set_same, get_or-set_other, take_all, drop-drop}
+use lib.ListN.{length, get_or, set, length-set, length-drop}
+use lib.Seq.{get_or-set_same, get_or-set_other}
 use lib.Bits.{bit_and, bit_or, or_lt}
 use borrow.Author.Tests.{eq-eqb, ne_eqb}
 use Rattle.model.specs.Words.{has, choose, maybe, is_some}
@@ -19,7 +18,6 @@ use Rattle.model.specs.Tree.{Child, Guard, Statement, branch, Part, ◌then◌}
 use Rattle.model.specs.Guards.{holds}
 use Rattle.model.specs.Moves.{is_at}
 use Rattle.model.specs.declared.OwnState.{OwnState}
-use Rattle.model.proofs.Words.{lt_or_le}
 use Rattle.model.proofs.Bits.{has_none}
 use Rattle.model.proofs.Masks.{has_and, has_or}
 use Rattle.records.specs.Patterns.{pattern_as}
@@ -28,7 +26,6 @@ use Rattle.bodies.specs.StatementReaders.{statement_record, records_beside, then
 use Rattle.bodies.specs.declared.statements.Branch.{Branch}
 use Rattle.bodies.specs.declared.statements.StatementRecord.{StatementRecord}
 use Rattle.bodies.specs.declared.statements.StatementRecord.TheVariants.{Do, MoveTo, If, Unknown}
-use Rattle.bodies.proofs.ReaderLaws.{behind_falls}
 use Rattle.bodies.proofs.ReadLaws.{read_end, read_do, read_move, read_if}
 use Rattle.lanes.specs.Lanes.{Lanes, opposite}
 use Rattle.lanes.proofs.LaneLaws.{lanes_not}
@@ -232,70 +229,43 @@ module _ (words part : List ℕ) (q mask : ℕ) (before : List ℕ) where
             swept_as ks q (λ l. ap (λ (x : Statement). goes_one x l) z ∙ goes_branch B.guard B.first B.second l) (swept_choose ks q B.guard (goes B.first) (goes B.second) w mask l₁ l₂ before between after L F G);
       }
 
--- the statements before byte `at` were run, and who runs the rest on the lanes that are left has run all
-pub record Sweeping (words part : List ℕ) (q mask : ℕ) (before : List ℕ) (at : ℕ) (table : List ℕ) (left : ℕ) : Type 0 where
-  pub inside : at ≤ length part
+-- the statements before the rest were run, and who runs the rest on the lanes that are left has run all
+pub record Sweeping (words part : List ℕ) (q mask : ℕ) (before rest table : List ℕ) (left : ℕ) : Type 0 where
+  pub short : length rest ≤ length part
   pub long : length table ≡ length before
-  pub on : (after : List ℕ) (last : ℕ) → SweepsPart words (drop at part) q left table after last → SweepsPart words part q mask before after last
+  pub on : (after : List ℕ) (last : ℕ) → SweepsPart words rest q left table after last → SweepsPart words part q mask before after last
 
 module _ (words part : List ℕ) (q mask : ℕ) (before : List ℕ) where
-  pub sweeping_start : Sweeping words part q mask before 0 before mask
-  sweeping_start = record { inside = omega arith; long = refl; on = λ after last S. S }
+  pub sweeping_start : Sweeping words part q mask before part before mask
+  sweeping_start = record { short = omega arith; long = refl; on = λ after last S. S }
 
-  pub sweeping_end : (at : ℕ) (table : List ℕ) (left : ℕ) → Sweeping words part q mask before at table left → left ≡ 0 → SweepsPart words part q mask before table 0
-  sweeping_end at table left S z = S.on table 0 (sweep_empty words (drop at part) q left table z)
+  pub sweeping_end : (rest table : List ℕ) (left : ℕ) → Sweeping words part q mask before rest table left → left ≡ 0 → SweepsPart words part q mask before table 0
+  sweeping_end rest table left S z = S.on table 0 (sweep_empty words rest q left table z)
 
-  module _ (at : ℕ) (table : List ℕ) (left : ℕ) (S : Sweeping words part q mask before at table left) (rest : List ℕ) (e : rest ≡ take (length part - at) (drop at part)) where
-    here : rest ≡ drop at part
-    here = e ∙ take_all (length part - at) (drop at part) (omega (arith, length-drop at part))
+  module _ (rest table : List ℕ) (left : ℕ) (S : Sweeping words part q mask before rest table left) where
+    -- what is behind the statement at the front is shorter
+    behind_short : (r : StatementRecord) (p : List ℕ) → p ≡ behind_statement r rest → length p ≤ length part
+    behind_short r p ep = let m = S.short in omega (arith, ap length ep, length-drop ((1 + records_beside r) * 8) rest)
 
-    length_here : length rest ≡ length part - at
-    length_here = ap length here ∙ length-drop at part
-
-    -- where the list behind a statement stands
-    behind_here : (n : ℕ) (p : List ℕ) → p ≡ drop n rest → drop (length part - length p) part ≡ drop n (drop at part)
-    behind_here n p ep = go (lt_or_le (at + n) (length part))
-      where
-        long : length p ≡ length part - at - n
-        long = ap length ep ∙ length-drop n rest ∙ ap (λ (k : ℕ). k - n) length_here
-
-        go : (at + n < length part) ⊎ (length part ≤ at + n) → drop (length part - length p) part ≡ drop n (drop at part)
-        go (inl l) = let z : length part - length p ≡ at + n = (let m = long in omega arith) in rw (z, drop-drop n at part)
-        go (inr l) =
-            let i = S.inside in
-            let z : length part - length p ≡ length part = (let m = long in omega arith) in
-            let w : length part ≤ length part = omega arith in
-            rw (z, drop-drop n at part, drop_of_length-le part w, drop_of_length-le part l)
-
-    pub sweeping_sent : (m : ℕ) (c : Pattern) → Do m c ≡ statement_record rest → (p : List ℕ) → p ≡ behind_statement (Do m c) rest → Sweeping words part q mask before (length part - length p) table left
+    pub sweeping_sent : (m : ℕ) (c : Pattern) → Do m c ≡ statement_record rest → (p : List ℕ) → p ≡ behind_statement (Do m c) rest → Sweeping words part q mask before p table left
     sweeping_sent m c f p ep =
         record {
-          inside = omega arith;
+          short = behind_short (Do m c) p ep;
           long = S.long;
-          on = λ after last R. S.on after last (sweep_sent words (drop at part) q left table m c (f ∙ ap statement_record here) (drop (length part - length p) part) (behind_here (1 * 8) p ep) R);
+          on = λ after last R. S.on after last (sweep_sent words rest q left table m c f p ep R);
         }
 
     pub sweeping_on : (b : Branch) → If b ≡ statement_record rest → {mid : ℕ} {between : List ℕ} → SweepsIf words rest q left table between mid → (p : List ℕ) → p ≡ behind_statement (If b) rest
-        → Sweeping words part q mask before (length part - length p) between mid
+        → Sweeping words part q mask before p between mid
     sweeping_on b f done p ep =
         record {
-          inside = omega arith;
+          short = behind_short (If b) p ep;
           long = done.kept.long ∙ S.long;
-          on = λ after last R. S.on after last (sweep_on words (drop at part) q left table b (f ∙ ap statement_record here) (rw here at done) (drop (length part - length p) part) (behind_here ((1 + (b.thens + b.elses)) * 8) p ep) R);
+          on = λ after last R. S.on after last (sweep_on words rest q left table b f done p ep R);
         }
 
     pub swept_go : (s : OwnState) (t : ℕ) (after : List ℕ) → MoveTo s ≡ statement_record rest → t ≡ s.0 → Adds q t left table after → SweepsPart words part q mask before after 0
-    swept_go s t after f et A = S.on after 0 (sweep_go words (drop at part) q left table s t after (f ∙ ap statement_record here) et A)
+    swept_go s t after f et A = S.on after 0 (sweep_go words rest q left table s t after f et A)
 
     pub swept_nothing : Unknown ≡ statement_record rest → SweepsPart words part q mask before table left
-    swept_nothing f = S.on table left (sweep_nothing words (drop at part) q left table (f ∙ ap statement_record here))
-
-    -- the rest is no longer than the list, and gets shorter
-    pub rest_short : length rest ≤ length part
-    rest_short = let m = length_here in omega arith
-
-    pub behind_short : (r : StatementRecord) (p : List ℕ) → p ≡ behind_statement r rest → length p ≤ length part
-    behind_short r p ep = let m = length_here in omega (arith, ap length ep, length-drop ((1 + records_beside r) * 8) rest)
-
-    pub rest_falls : (r : StatementRecord) (p : List ℕ) → 8 ≤ length rest → p ≡ behind_statement r rest → length part - (length part - length p) < length part - at
-    rest_falls r p l ep = let f = behind_falls r rest p l ep in let m = length_here in omega arith
+    swept_nothing f = S.on table left (sweep_nothing words rest q left table f)

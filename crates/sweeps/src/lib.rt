@@ -19,7 +19,7 @@ fn add_lanes(table: &mut [u64], q: usize, t: usize, lanes: u64)
 {
     if t < 32 {
         let at = q * 32 + t;
-        table[at] = table[at] | lanes;
+        table[at] |= lanes;
     }
 }
 
@@ -30,27 +30,22 @@ pub fn sweep_list(words: &[u64], part: &[u8], q: usize, mask: u64, table: &mut [
     requires { (q < 32) × (length table.old ≡ 1280) }
     ensures { SweepsPart words.now part.now q mask table.old table.new result }
 {
-    let mut at = 0;
+    let mut rest = part;
     let mut left = mask;
     while left != 0 {
-        let rest = &part[at..];
         let front = statement_record(rest);
         match front {
-            StatementRecord::Do(_, _) => {
-                at = part.len() - behind_statement(front, rest).len();
-            }
+            StatementRecord::Do(..) => {}
             StatementRecord::MoveTo(t) => {
                 add_lanes(table, q, t.0 as usize, left);
                 return 0;
             }
             StatementRecord::If(branch) => {
                 left = sweep_if(words, branch, rest, q, left, table);
-                at = part.len() - behind_statement(front, rest).len();
             }
-            StatementRecord::Unknown => {
-                return left;
-            }
+            StatementRecord::Unknown => return left,
         }
+        rest = behind_statement(front, rest);
     }
     0
 }

@@ -2,16 +2,14 @@
 -- gets shorter. `sweep_if` runs each part on the lanes that its guard chooses. With each call the bytes get fewer, but for the call of
 -- `sweep_if`, whose measure is one less on the same bytes.
 -- Assumes nothing.
-use Prim.Native.Nat.{◌-◌}
 use native.Mathlib.Omega.{arith}
 use mathlib.Core.Path.{refl, sym, ap, ◌∙◌}
-use lib.ListN.{length, take, drop}
 use Rattle.bodies.specs.StatementReaders.{behind_statement}
 use Rattle.bodies.specs.declared.statements.StatementRecord.{StatementRecord}
-use Rattle.bodies.specs.declared.statements.StatementRecord.TheVariants.{Do, If}
-use Rattle.bodies.proofs.ReaderLaws.{told, parts_fall}
-use Rattle.sweeps.proofs.SweepLaws.{sweep_if as swept_if, sweeping_start, sweeping_end, sweeping_sent, sweeping_on, swept_go, swept_nothing, rest_falls}
+use Rattle.bodies.proofs.ReaderLaws.{told, parts_fall, behind_falls}
+use Rattle.sweeps.proofs.SweepLaws.{sweep_if as swept_if, sweeping_start, sweeping_end, sweeping_sent, sweeping_on, swept_go, swept_nothing}
 use Rattle.sweeps.proofs.+sweep_if_sweep_list.Goals as goal
+use Rattle.sweeps.proofs.+sweep_if_sweep_list.Goals.{sweep_list-in-Do, sweep_list-in-If}
 
 pub sweep_if-sweep_list-first-requires : goal.sweep_if-sweep_list-first-requires
 sweep_if-sweep_list-first-requires t c =
@@ -28,32 +26,27 @@ sweep_if-returns t c =
 pub sweep_list-loop-left-init : goal.sweep_list-loop-left-init
 sweep_list-loop-left-init t c = sweeping_start _ _ _ _ _
 
-pub sweep_list-loop-left-smaller-in-Do : goal.sweep_list-loop-left-smaller-in-Do
-sweep_list-loop-left-smaller-in-Do t c =
-    let rest = take (length c.args.part.now - c.loop-left.at) (drop c.loop-left.at c.args.part.now) in
-    rest_falls _ _ _ _ _ _ _ _ c.loop-left.invariant _ refl (Do c.in-Do.field-0 c.in-Do.field-1) _ (told rest _ (sym c.in-Do.is ∙ c.statement_record-front.ensures)).0 (c.behind_statement.ensures ∙ ap (λ (r : StatementRecord). behind_statement r rest) c.in-Do.is)
-
-pub sweep_list-loop-left-preserved-in-Do : goal.sweep_list-loop-left-preserved-in-Do
-sweep_list-loop-left-preserved-in-Do t c =
-    let rest = take (length c.args.part.now - c.loop-left.at) (drop c.loop-left.at c.args.part.now) in
-    sweeping_sent _ _ _ _ _ _ _ _ c.loop-left.invariant _ refl _ _ (sym c.in-Do.is ∙ c.statement_record-front.ensures) _ (c.behind_statement.ensures ∙ ap (λ (r : StatementRecord). behind_statement r rest) c.in-Do.is)
-
 pub sweep_list-returns-in-MoveTo : goal.sweep_list-returns-in-MoveTo
-sweep_list-returns-in-MoveTo t c =
-    swept_go _ _ _ _ _ _ _ _ c.loop-left.invariant _ refl _ _ _ (sym c.in-MoveTo.is ∙ c.statement_record-front.ensures) refl c.add_lanes.ensures
+sweep_list-returns-in-MoveTo t c = swept_go _ _ _ _ _ _ _ _ c.loop-left.invariant _ _ _ (sym c.in-MoveTo.is ∙ c.statement_record-front.ensures) refl c.add_lanes.ensures
+
+pub sweep_list-returns-in-Unknown : goal.sweep_list-returns-in-Unknown
+sweep_list-returns-in-Unknown t c = swept_nothing _ _ _ _ _ _ _ _ c.loop-left.invariant (sym c.in-Unknown.is ∙ c.statement_record-front.ensures)
 
 pub sweep_list-loop-left-smaller : goal.sweep_list-loop-left-smaller
 sweep_list-loop-left-smaller t c =
-    let rest = take (length c.args.part.now - c.loop-left.at) (drop c.loop-left.at c.args.part.now) in
-    rest_falls _ _ _ _ _ _ _ _ c.loop-left.invariant _ refl (If c.in-If.branch) _ (told rest _ (sym c.in-If.is ∙ c.statement_record-front.ensures)).0 c.behind_statement-in-If.ensures
+    elim c.match-front.branch [
+      | sweep_list-in-Do w ↦ behind_falls c.match-front.front _ _ (told c.loop-left.rest.now _ (sym w.in-Do.is ∙ c.statement_record-front.ensures)).0 c.behind_statement-rest.ensures
+      | sweep_list-in-If w ↦ behind_falls c.match-front.front _ _ (told c.loop-left.rest.now _ (sym w.in-If.is ∙ c.statement_record-front.ensures)).0 c.behind_statement-rest.ensures
+    ]
 
 pub sweep_list-loop-left-preserved : goal.sweep_list-loop-left-preserved
 sweep_list-loop-left-preserved t c =
-    sweeping_on _ _ _ _ _ _ _ _ c.loop-left.invariant _ refl _ (sym c.in-If.is ∙ c.statement_record-front.ensures) c.sweep_if-left.ensures _ c.behind_statement-in-If.ensures
-
-pub sweep_list-returns-in-Unknown : goal.sweep_list-returns-in-Unknown
-sweep_list-returns-in-Unknown t c =
-    swept_nothing _ _ _ _ _ _ _ _ c.loop-left.invariant _ refl (sym c.in-Unknown.is ∙ c.statement_record-front.ensures)
+    elim c.match-front.branch [
+      | sweep_list-in-Do w ↦ rw (w.table-is, w.left-is)
+          (sweeping_sent _ _ _ _ _ _ _ _ c.loop-left.invariant _ _ (sym w.in-Do.is ∙ c.statement_record-front.ensures) _ (c.behind_statement-rest.ensures ∙ ap (λ (r : StatementRecord). behind_statement r c.loop-left.rest.now) (w.front-is ∙ w.in-Do.is)))
+      | sweep_list-in-If w ↦ rw (w.table-is, w.left-is)
+          (sweeping_on _ _ _ _ _ _ _ _ c.loop-left.invariant _ (sym w.in-If.is ∙ c.statement_record-front.ensures) w.sweep_if-left.ensures _ (c.behind_statement-rest.ensures ∙ ap (λ (r : StatementRecord). behind_statement r c.loop-left.rest.now) w.front-is))
+    ]
 
 pub sweep_list-returns : goal.sweep_list-returns
 sweep_list-returns t c = sweeping_end _ _ _ _ _ _ _ _ c.loop-left.invariant c.loop-left-test.false
