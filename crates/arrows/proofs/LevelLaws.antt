@@ -4,7 +4,7 @@ use Prim.Native.Nat.{ℕ, zero, suc, ◌+◌, ◌*◌, ◌^◌, ◌<◌, ◌≤�
 use native.Mathlib.Omega.{arith}
 use native.Mathlib.Numerals.{add-one}
 use mathlib.Core.Path.{◌≡◌, refl, sym, ap}
-use mathlib.Core.Bool.{Bool, true, false, ◌&&◌, ◌||◌, and-false, or-false}
+use mathlib.Core.Bool.{Bool, true, false, ◌&&◌, ◌||◌, and-false}
 use mathlib.Core.List.{List}
 use mathlib.Core.Logic.{◌⊎◌, inl, inr}
 use lib.ListN.{length, get_or, set, replicate, get_or-replicate}
@@ -112,15 +112,6 @@ module _ (s : ℕ) (table : List ℕ) where
       pub rounds_more : Rounds s table level (m + 1) (set next m w) (bit_or all w)
       unfolding some_below
       rounds_more = record { round = stored; union = λ counted n L. rw add-one (lanes_or (R.union counted n L) (N counted n L)) }
-
-      pub rounds_skip : w ≡ 0 → Rounds s table level (m + 1) (set next m w) all
-      unfolding some_below
-      rounds_skip z =
-          record {
-            round = stored;
-            union = λ counted n L. rw add-one (lanes_as (λ i. some_below (suc m) (λ q. lane_can s table counted (suc n) q i)) (R.union counted n L)
-                (λ i u. let f = lanes_empty (N counted n L) z i u in rw f (sym (or-false (some_below m (λ q. lane_can s table counted (suc n) q i))))));
-          }
 
     pub rounds_end : (m : ℕ) (next : List ℕ) (all : ℕ) → Rounds s table level m next all → m ≤ s → s ≤ m → Rounds s table level s next all
     rounds_end m next all R a b = let z : m ≡ s = omega arith in rw z at R

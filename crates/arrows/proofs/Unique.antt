@@ -17,8 +17,7 @@ use Rattle.lanes.proofs.LaneLaws.{lanes_one, lanes_some}
 use Rattle.arrows.specs.Sorting.{TablesFor, Sorted}
 use Rattle.arrows.specs.Levels.{lane_can, some_can, LongestIs, LevelsAre}
 use Rattle.arrows.specs.Unique.{Unique}
-use Rattle.arrows.specs.declared.levels.Moves.{Moves}
-use Rattle.arrows.specs.declared.levels.Moves.TheVariants.{Forever, Longest}
+use Rattle.std.specs.Prelude.{Result, Ok, Err}
 use Rattle.arrows.proofs.LevelLaws.{can_fewer}
 
 -- a table that is sorted: a place is the word of a move or of an action clause
@@ -64,11 +63,11 @@ module _ (s : ℕ) (table : List ℕ) (counted : ℕ) where
       let b = L.fewer in
       omega arith
 
-  one_count : (r t : Moves) → LevelsAre s table counted r → LevelsAre s table counted t → r ≡ t
-  one_count (Forever w) (Forever v) g h = ap Forever (lanes_one g.0 h.0)
-  one_count (Forever w) (Longest n) g h = absurd (not_both w n g h)
-  one_count (Longest n) (Forever w) g h = absurd (not_both w n h g)
-  one_count (Longest n) (Longest m) g h = ap Longest (let a = not_longer n m g h in let b = not_longer m n h g in let z : n ≡ m = omega arith in z)
+  one_count : (r t : Result ℕ ℕ) → LevelsAre s table counted r → LevelsAre s table counted t → r ≡ t
+  one_count (Err w) (Err v) g h = ap Err (lanes_one g.0 h.0)
+  one_count (Err w) (Ok n) g h = absurd (not_both w n g h)
+  one_count (Ok n) (Err w) g h = absurd (not_both w n h g)
+  one_count (Ok n) (Ok m) g h = ap Ok (let a = not_longer n m g h in let b = not_longer m n h g in let z : n ≡ m = omega arith in z)
 
 pub unique : Unique
 unique = record { sorting = one_sorting; counting = one_count }

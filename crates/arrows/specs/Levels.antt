@@ -1,11 +1,9 @@
 -- How many moves can be made in the lanes of a block.
 -- Assumes nothing.
-use Rattle.std.specs.Prelude.{ℕ, zero, suc, ◌<◌, ◌≤◌, ◌≡◌, Bool, true, false, ◌&&◌, List, ◌⊎◌, length, get_or}
+use Rattle.std.specs.Prelude.{Result, Ok, Err, ℕ, zero, suc, ◌<◌, ◌≤◌, ◌≡◌, Bool, true, false, ◌&&◌, List, ◌⊎◌, length, get_or}
 use Rattle.model.specs.Words.{has, some_below}
 use Rattle.lanes.specs.Lanes.{Lanes}
 use Rattle.sweeps.specs.Sweeps.{move_word}
-use Rattle.arrows.specs.declared.levels.Moves.{Moves}
-use Rattle.arrows.specs.declared.levels.Moves.TheVariants.{Forever, Longest}
 
 -- in lane i n moves can be made from state q: a move leads to a state below s from which one less can be made
 unfoldable pub lane_can : ℕ → List ℕ → ℕ → ℕ → ℕ → ℕ → Bool
@@ -23,9 +21,9 @@ pub record LongestIs (s : ℕ) (table : List ℕ) (counted n : ℕ) : Type 0 whe
   pub one_makes : (n ≡ 0) ⊎ ((i : ℕ) × (q : ℕ) × (i < 64) × (q < s) × (lane_can s table counted n q i ≡ true))
 
 -- the lanes in which s moves can be made, of which there are some; or none makes so many
-abbrev pub LevelsAre : ℕ → List ℕ → ℕ → Moves → Type 0
-LevelsAre s table counted (Forever w) = Lanes w (some_can s table counted s) × (w ≡ 0 → ⊥)
-LevelsAre s table counted (Longest n) = LongestIs s table counted n
+abbrev pub LevelsAre : ℕ → List ℕ → ℕ → Result ℕ ℕ → Type 0
+LevelsAre s table counted (Err w) = Lanes w (some_can s table counted s) × (w ≡ 0 → ⊥)
+LevelsAre s table counted (Ok n) = LongestIs s table counted n
 
 -- the table that is lent
 pub record LevelsLent (s : ℕ) (table : List ℕ) : Type 0 where

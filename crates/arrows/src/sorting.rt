@@ -20,9 +20,9 @@ pub struct Clauses {
 
 // The when clauses from `first` to `last` in order, each taking those of the remaining lanes in which its guard is true to the word that it
 // aims at.
-fn take_hits<'a>(
-    places: &'a [usize],
-    aims: &'a [usize],
+fn take_hits(
+    places: &[usize],
+    aims: &[usize],
     first: usize,
     last: usize,
     words: &[u64],
@@ -33,24 +33,22 @@ fn take_hits<'a>(
     ensures { Took places.now aims.now words.now first last counted table.old table.new }
 {
     let mut remaining = counted;
-    let mut m = first;
-    while m < last {
+    for m in first..last {
         let word = word_at(words, places[m]);
         let at = aims[m];
         let hit = remaining & word;
-        remaining = remaining & !word;
-        m = m + 1;
+        remaining &= !word;
         if at < 1280 {
-            table[at] = table[at] | hit;
+            table[at] |= hit;
         }
     }
 }
 
 // The action clauses from `first` to `last` of state q, each run on the lanes in which a DO runs it.
-fn run_actions<'a>(
+fn run_actions(
     words: &[u64],
-    statements: &'a [u8],
-    froms: &'a [usize],
+    statements: &[u8],
+    froms: &[usize],
     first: usize,
     last: usize,
     q: usize,
@@ -59,40 +57,32 @@ fn run_actions<'a>(
     requires { RunsLent statements.now froms.now first last q table.old }
     ensures { RanAll words.now statements.now froms.now first last q table.old table.new }
 {
-    let mut a = first;
-    while a < last {
+    for a in first..last {
         let from = froms[a];
         let to = froms[a + 1];
         let hits = table[1024 + a];
         sweep_list(words, &statements[from..to], q, hits, table);
-        a = a + 1;
     }
 }
 
 // Where the lanes of every state move: word q * 32 + t has the lanes in which the next move from q leads to t, word 1024 + a those in which a DO
 // runs action clause a.
-pub fn sort_lanes<'a>(
-    places: &'a [usize],
-    aims: &'a [usize],
-    firsts: &'a [usize],
-    actions: &'a [usize],
-    froms: &'a [usize],
-    statements: &'a [u8],
-    s: usize,
+pub fn sort_lanes(
+    clauses: &Clauses,
+    statements: &[u8],
     words: &[u64],
     counted: u64,
     table: &mut [u64],
 )
-    requires { Ranges places.now aims.now firsts.now actions.now froms.now statements.now s × Empty table.old × (length table.old ≡ 1280) }
-    ensures { Sorted places.now aims.now firsts.now actions.now froms.now statements.now s s words.now counted table.new }
+    requires { Ranges clauses.now.places clauses.now.aims clauses.now.firsts clauses.now.actions clauses.now.froms statements.now clauses.now.states × Empty table.old × (length table.old ≡ 1280) }
+    ensures { Sorted clauses.now.places clauses.now.aims clauses.now.firsts clauses.now.actions clauses.now.froms statements.now clauses.now.states clauses.now.states words.now counted table.new }
 {
-    let mut q = 0;
-    while q < s {
+    for q in 0..clauses.states {
         take_hits(
-            places,
-            aims,
-            firsts[q],
-            firsts[q + 1],
+            &clauses.places,
+            &clauses.aims,
+            clauses.firsts[q],
+            clauses.firsts[q + 1],
             words,
             counted,
             table,
@@ -100,12 +90,11 @@ pub fn sort_lanes<'a>(
         run_actions(
             words,
             statements,
-            froms,
-            actions[q],
-            actions[q + 1],
+            &clauses.froms,
+            clauses.actions[q],
+            clauses.actions[q + 1],
             q,
             table,
         );
-        q = q + 1;
     }
 }

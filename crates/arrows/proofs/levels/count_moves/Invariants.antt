@@ -1,6 +1,5 @@
 -- `count_moves`: after n rounds the level has the lanes in which n moves can be made.
 -- Assumes nothing.
-use Prim.Native.Nat.{◌-◌}
 use mathlib.Core.Path.{◌≡◌}
 use lib.ListN.{length}
 use Rattle.arrows.proofs.LevelLaws.{Leveled}
@@ -8,6 +7,3 @@ use Rattle.arrows.proofs.levels.count_moves.Given as goal
 
 abbrev pub invariant-loop-n : goal.invariant-loop-n
 invariant-loop-n l = (length l.level ≡ 32) × Leveled l.s l.table l.counted l.n l.level l.all
-
-abbrev pub decreases-loop-n : goal.decreases-loop-n
-decreases-loop-n l = l.s - l.n

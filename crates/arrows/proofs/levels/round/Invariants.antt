@@ -1,6 +1,6 @@
 -- `round`: the next level of the states before q, and the lanes that are in any of them.
 -- Assumes nothing.
-use Prim.Native.Nat.{◌-◌, ◌≤◌}
+use Prim.Native.Nat.{◌≤◌}
 use mathlib.Core.Path.{◌≡◌}
 use lib.ListN.{length}
 use Rattle.arrows.specs.Levels.{Rounds}
@@ -8,6 +8,3 @@ use Rattle.arrows.proofs.levels.round.Given as goal
 
 abbrev pub invariant-loop-q : goal.invariant-loop-q
 invariant-loop-q l = ((l.q ≤ l.s) × (length l.next ≡ 32)) × Rounds l.s l.table l.level l.q l.next l.all
-
-abbrev pub decreases-loop-q : goal.decreases-loop-q
-decreases-loop-q l = l.s - l.q
