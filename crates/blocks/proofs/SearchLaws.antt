@@ -3,8 +3,8 @@
 use Prim.Native.Nat.{ℕ, ◌+◌, ◌*◌, ◌%◌, ◌^◌, ◌<◌, ◌≤◌, max}
 use native.Mathlib.Omega.{arith}
 use native.Mathlib.Nat.{one-mul}
-use mathlib.Core.Path.{◌≡◌, sym, ap, ◌∙◌, subst}
-use mathlib.Core.Bool.{true}
+use mathlib.Core.Path.{◌≡◌, refl, sym, ap, ◌∙◌, subst}
+use mathlib.Core.Bool.{true, cond}
 use mathlib.Core.List.{List}
 use mathlib.Core.Logic.{◌⊎◌, inl, inr}
 use lib.ListN.{length, get_or}
@@ -31,11 +31,12 @@ use Rattle.lanes.proofs.LaneLaws.{lowest_is}
 use Rattle.truths.specs.Plans.{Planned}
 use Rattle.truths.specs.declared.plans.Plan.{Plan}
 use Rattle.arrows.specs.declared.sorting.Clauses.{Clauses}
-use Rattle.arrows.specs.declared.levels.Moves.{Moves}
-use Rattle.arrows.specs.declared.levels.Moves.TheVariants.{Forever, Longest}
+use Rattle.std.specs.Prelude.{Result, Ok, Err}
+use Rattle.std.proofs.Common.{Ordering, Less, Equal, Greater}
+use Rattle.std.specs.Ordering.{ord_max, nat_cmp, is_lt}
+use Rattle.std.proofs.lemmas.Cmp.{ranked}
 use Rattle.blocks.specs.ClauseTables.{ClausesOf}
 use Rattle.blocks.specs.Search.{CellsOf, Tables, TablesOf, Ready, BlockDoes, BlockIs, Finds}
-use Rattle.blocks.specs.declared.search.Outcome.TheVariants.{Loop, Free}
 use Rattle.accepted.proofs.ClauseLaws.{guards_short, states_some}
 use Rattle.blocks.proofs.ClauseLaws.{ranges}
 
@@ -75,6 +76,15 @@ ready b p present g k statements t T =
       lows_right = T.counts.lows_right;
     }
 
+-- the larger of two numbers
+pub larger : (a b : ℕ) → ord_max nat_cmp a b ≡ max a b
+larger a b = go (nat_cmp b a) refl
+  where
+    go : (o : Ordering) → o ≡ nat_cmp b a → cond (is_lt o) a b ≡ max a b
+    go Less e = let l : b < a = ranked b a Less e in omega arith
+    go Equal e = let l : b ≡ a = ranked b a Equal e in omega arith
+    go Greater e = let l : a < b = ranked b a Greater e in omega arith
+
 -- before the block at `next`: no configuration below it has a loop, and the longest phase in them is known, of whatever sheet the tables are
 pub record Searching (g : Plan) (k : Clauses) (statements : List ℕ) (t : Present) (names all : ℕ) (words : List ℕ) (longest next : ℕ) : Type 0 where
   pub round : next % 64 ≡ 0
@@ -95,7 +105,7 @@ module _ (g : Plan) (k : Clauses) (statements : List ℕ) (t : Present) where
 
   module _ (names all : ℕ) (words : List ℕ) (longest base : ℕ) (S : Searching g k statements t names all words longest base) where
     -- what is lent to a block
-    pub lent : Ready g k statements t → Tables g.count g.kinds g.masks g.lows k.places k.aims k.firsts k.actions k.froms statements k.states t base words
+    pub lent : Ready g k statements t → Tables g k statements t base words
     lent R =
         record {
           lent = record { few = R.few; of_kinds = R.of_kinds; of_masks = R.of_masks; of_lows = R.of_lows; of_words = S.of_words };
@@ -106,8 +116,8 @@ module _ (g : Plan) (k : Clauses) (statements : List ℕ) (t : Present) where
         }
 
     -- after a block
-    module _ (r : Moves) (B : BlockIs g.count g.kinds g.sizes g.masks g.lows k.places k.aims k.firsts k.actions k.froms statements k.states t base r) where
-      pub search_more : (words₁ : List ℕ) (m x : ℕ) → base < all → length words₁ ≡ length words → r ≡ Longest m → x ≡ max longest m → Searching g k statements t names all words₁ x (base + 64)
+    module _ (r : Result ℕ ℕ) (B : BlockIs g k statements t base r) where
+      pub search_more : (words₁ : List ℕ) (m x : ℕ) → base < all → length words₁ ≡ length words → r ≡ Ok m → x ≡ max longest m → Searching g k statements t names all words₁ x (base + 64)
       search_more words₁ m x l w e f =
           let a = S.round in
           let n = S.number in
@@ -125,7 +135,7 @@ module _ (g : Plan) (k : Clauses) (statements : List ℕ) (t : Present) where
           either (inl l) = inr (omega arith)
           either (inr l) = inl (omega arith)
 
-      pub search_loop : (w i : ℕ) → r ≡ Forever w → i ≡ lowest_lane w → Finds g k statements t names (Loop (base + i))
+      pub search_loop : (w i : ℕ) → r ≡ Err w → i ≡ lowest_lane w → Finds g k statements t names (Err (base + i))
       search_loop w i e f =
           record {
             finds = λ b p present T _.
@@ -136,5 +146,5 @@ module _ (g : Plan) (k : Clauses) (statements : List ℕ) (t : Present) where
                 (found_first (class_of b) (is_sound T) present base longest i (S.to b p present T) l here (λ j u. sym (W.lane j (omega arith)) ∙ none j u));
           }
 
-    pub search_free : all ≤ base → Finds g k statements t names (Free longest)
+    pub search_free : all ≤ base → Finds g k statements t names (Ok longest)
     search_free l = record { finds = λ b p present T e. answered_free (class_of b) present base longest (S.to b p present T) (rw (← e, ← S.number) l) }

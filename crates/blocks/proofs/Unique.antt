@@ -17,8 +17,7 @@ use Rattle.arrows.specs.declared.sorting.Clauses.{Clauses}
 use Rattle.blocks.specs.ClauseTables.{FirstsOf, FromsOf, ClausesOf}
 use Rattle.blocks.specs.Search.{Found}
 use Rattle.blocks.specs.Unique.{Unique}
-use Rattle.blocks.specs.declared.search.Outcome.{Outcome}
-use Rattle.blocks.specs.declared.search.Outcome.TheVariants.{Loop, Free}
+use Rattle.std.specs.Prelude.{Result, Ok, Err}
 
 -- two tables that agree below n and are zeros behind it
 agree : (x y : List ℕ) (n : ℕ) → length x ≡ length y → ((j : ℕ) → j < n → get_or x j 0 ≡ get_or y j 0) → ((j : ℕ) → n ≤ j → get_or x j 0 ≡ 0) → ((j : ℕ) → n ≤ j → get_or y j 0 ≡ 0) → x ≡ y
@@ -58,11 +57,11 @@ one_clauses b r s C D =
     let n : r.states ≡ s.states = C.number ∙ sym D.number in
     λ i. record { places = x i; aims = y i; firsts = z i; actions = v i; froms = f i; states = n i }
 
-one_search : (b : List ℕ) (present : ℕ) (r s : Outcome) → Found b present r → Found b present s → r ≡ s
-one_search b present (Loop k) (Loop j) g h = ap Loop (cc)
-one_search b present (Loop k) (Free m) g h = absurd (clash (cc))
-one_search b present (Free m) (Loop k) g h = absurd (clash (cc))
-one_search b present (Free m) (Free k) g h = ap Free (cc)
+one_search : (b : List ℕ) (present : ℕ) (r s : Result ℕ ℕ) → Found b present r → Found b present s → r ≡ s
+one_search b present (Err k) (Err j) g h = ap Err (cc)
+one_search b present (Err k) (Ok m) g h = absurd (clash (cc))
+one_search b present (Ok m) (Err k) g h = absurd (clash (cc))
+one_search b present (Ok m) (Ok k) g h = ap Ok (cc)
 
 pub unique : Unique
 unique = record { clauses = one_clauses; searching = one_search }

@@ -1,6 +1,6 @@
 -- What the search finds: the configuration of the loop answer, or its number of moves.
 -- Assumes nothing.
-use Rattle.std.specs.Prelude.{ℕ, ◌%◌, ◌<◌, ◌≤◌, ◌≡◌, true, List, length}
+use Rattle.std.specs.Prelude.{ℕ, ◌%◌, ◌<◌, ◌≤◌, ◌≡◌, true, List, Result, Ok, Err, length}
 use Rattle.model.specs.Words.{has}
 use Rattle.model.specs.Crews.{child_classes}
 use Rattle.sheet.specs.Contents.{body}
@@ -21,11 +21,7 @@ use Rattle.truths.specs.declared.plans.Plan.{Plan}
 use Rattle.truths.specs.Words.{Lent}
 use Rattle.arrows.specs.Sorting.{Ranges}
 use Rattle.arrows.specs.declared.sorting.Clauses.{Clauses}
-use Rattle.arrows.specs.declared.levels.Moves.{Moves}
-use Rattle.arrows.specs.declared.levels.Moves.TheVariants.{Forever, Longest}
 use Rattle.blocks.specs.ClauseTables.{ClausesOf}
-use Rattle.blocks.specs.declared.search.Outcome.{Outcome}
-use Rattle.blocks.specs.declared.search.Outcome.TheVariants.{Loop, Free}
 
 -- the cells that are held are those of the class, of which there are at most 20, and only child classes of the sheet are present
 pub record CellsOf (b : List ℕ) (present : ℕ) (r : Cells) : Type 0 where
@@ -35,17 +31,17 @@ pub record CellsOf (b : List ℕ) (present : ℕ) (r : Cells) : Type 0 where
   pub below : (i : ℕ) → has present i ≡ true → i < child_classes (class_of b)
 
 -- what the search finds of a sheet
-abbrev pub Found : List ℕ → ℕ → Outcome → Type 0
-Found b present (Loop k) = loop_answer (class_of b) present ≡ loop_in (class_of b) present k
-Found b present (Free m) = loop_answer (class_of b) present ≡ free m
+abbrev pub Found : List ℕ → ℕ → Result ℕ ℕ → Type 0
+Found b present (Err k) = loop_answer (class_of b) present ≡ loop_in (class_of b) present k
+Found b present (Ok m) = loop_answer (class_of b) present ≡ free m
 
 -- the tables that are lent to a block
-pub record Tables (n : ℕ) (kinds masks lows places aims firsts actions froms statements : List ℕ) (s : ℕ) (present : Present) (base : ℕ) (words : List ℕ) : Type 0 where
-  pub lent : Lent n kinds masks lows words
-  pub ranges : Ranges places aims firsts actions froms statements s
-  pub some_state : 0 < s
+pub record Tables (plan : Plan) (clauses : Clauses) (statements : List ℕ) (there : Present) (base : ℕ) (words : List ℕ) : Type 0 where
+  pub lent : Lent plan.count plan.kinds plan.masks plan.lows words
+  pub ranges : Ranges clauses.places clauses.aims clauses.firsts clauses.actions clauses.froms statements clauses.states
+  pub some_state : 0 < clauses.states
   pub round : base % 64 ≡ 0
-  pub lows_right : LowWords present.masks present.lows
+  pub lows_right : LowWords there.masks there.lows
 
 -- the tables are those of a sheet and its present child classes
 pub record TablesOf (b : List ℕ) (p : Places) (present : ℕ) (plan : Plan) (clauses : Clauses) (statements : List ℕ) (there : Present) : Type 0 where
@@ -68,16 +64,14 @@ pub record Ready (plan : Plan) (clauses : Clauses) (statements : List ℕ) (ther
   pub lows_right : LowWords there.masks there.lows
 
 -- what the configurations of the block at base do
-abbrev pub BlockDoes : List ℕ → ℕ → ℕ → Moves → Type 0
-BlockDoes b present base (Forever w) = Lanes w (in_block base (has_loop (class_of b) present)) × (w ≡ 0 → ⊥)
-BlockDoes b present base (Longest n) = BlockLongest (class_of b) present base n
+abbrev pub BlockDoes : List ℕ → ℕ → ℕ → Result ℕ ℕ → Type 0
+BlockDoes b present base (Err w) = Lanes w (in_block base (has_loop (class_of b) present)) × (w ≡ 0 → ⊥)
+BlockDoes b present base (Ok n) = BlockLongest (class_of b) present base n
 
 -- of whatever sheet the tables are
-pub record BlockIs (n : ℕ) (kinds sizes masks lows places aims firsts actions froms statements : List ℕ) (s : ℕ) (there : Present) (base : ℕ) (r : Moves) : Type 0 where
-  pub does : (b : List ℕ) (p : Places) (present : ℕ)
-      → TablesOf b p present (record { kinds = kinds; sizes = sizes; masks = masks; lows = lows; count = n }) (record { places = places; aims = aims; firsts = firsts; actions = actions; froms = froms; states = s }) statements there
-      → BlockDoes b present base r
+pub record BlockIs (plan : Plan) (clauses : Clauses) (statements : List ℕ) (there : Present) (base : ℕ) (r : Result ℕ ℕ) : Type 0 where
+  pub does : (b : List ℕ) (p : Places) (present : ℕ) → TablesOf b p present plan clauses statements there → BlockDoes b present base r
 
 -- what the blocks of all configurations of so many names give, of whatever sheet the tables are
-pub record Finds (plan : Plan) (clauses : Clauses) (statements : List ℕ) (there : Present) (names : ℕ) (r : Outcome) : Type 0 where
+pub record Finds (plan : Plan) (clauses : Clauses) (statements : List ℕ) (there : Present) (names : ℕ) (r : Result ℕ ℕ) : Type 0 where
   pub finds : (b : List ℕ) (p : Places) (present : ℕ) → TablesOf b p present plan clauses statements there → names ≡ name_count (class_of b) present → Found b present r

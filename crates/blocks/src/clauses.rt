@@ -36,10 +36,8 @@ fn first_clauses(states: &[u8], offset: usize) -> [usize; 33]
 {
     let s = in_fours(states);
     let mut firsts = [0usize; 33];
-    let mut q = 0;
-    while q <= s {
+    for q in 0..=s {
         firsts[q] = count_sum(states, offset, q);
-        q = q + 1;
     }
     firsts
 }
@@ -52,12 +50,9 @@ fn statement_starts(actions: &[u8]) -> [usize; 257]
     let n = in_fours(actions);
     let mut froms = [0usize; 257];
     let mut from = 0;
-    let mut a = 0;
-    while a < n {
-        let next = a + 1;
-        from = from + count_at(actions, 2, a) * 8;
-        froms[next] = from;
-        a = next;
+    for a in 0..n {
+        from += count_at(actions, 2, a) * 8;
+        froms[a + 1] = from;
     }
     froms
 }
@@ -75,11 +70,9 @@ fn read_state(
     requires { StateLent first last q action places.old aims.old }
     ensures { ReadState whens.now first last q action places.old aims.old places.new aims.new }
 {
-    let mut w = first;
-    while w < last {
+    for w in first..last {
         places[w] = guard_place(whens, w);
         aims[w] = aim_of(referrer_at(whens, w), q, action);
-        w = w + 1;
     }
 }
 
@@ -95,8 +88,7 @@ pub fn read_clauses(sheet: &[u8], p: Places) -> Clauses
     let states = state_count(sheet, p);
     let mut places = [0usize; 256];
     let mut aims = [0usize; 256];
-    let mut q = 0;
-    while q < states {
+    for q in 0..states {
         read_state(
             whens,
             firsts[q],
@@ -106,7 +98,6 @@ pub fn read_clauses(sheet: &[u8], p: Places) -> Clauses
             &mut places,
             &mut aims,
         );
-        q = q + 1;
     }
     Clauses {
         places,

@@ -6,6 +6,3 @@ use Rattle.blocks.proofs.clauses.first_clauses.Given as goal
 
 abbrev pub invariant-loop-q : goal.invariant-loop-q
 invariant-loop-q l = (l.s ≤ 32) × FirstsTo l.states l.offset l.firsts l.q
-
-abbrev pub decreases-loop-q : goal.decreases-loop-q
-decreases-loop-q l = l.s + 1 - l.q

@@ -8,6 +8,3 @@ use Rattle.blocks.proofs.clauses.read_clauses.Given as goal
 
 abbrev pub invariant-loop-q : goal.invariant-loop-q
 invariant-loop-q l = (l.q ≤ l.states) × WhensOf (body l.sheet 1) l.whens l.q l.places l.aims
-
-abbrev pub decreases-loop-q : goal.decreases-loop-q
-decreases-loop-q l = l.states - l.q

@@ -6,6 +6,3 @@ use Rattle.blocks.proofs.clauses.read_state.Given as goal
 
 abbrev pub invariant-loop-w : goal.invariant-loop-w
 invariant-loop-w l = ((l.first ≤ l.w) × (l.w ≤ l.last)) × ReadState l.whens l.first l.w l.q l.action l.initial.places l.initial.aims l.places l.aims
-
-abbrev pub decreases-loop-w : goal.decreases-loop-w
-decreases-loop-w l = l.last - l.w

@@ -6,6 +6,3 @@ use Rattle.blocks.proofs.clauses.statement_starts.Given as goal
 
 abbrev pub invariant-loop-a : goal.invariant-loop-a
 invariant-loop-a l = ((l.n ≤ 256) × (l.a ≤ l.n)) × FromsTo l.actions l.froms l.a l.from
-
-abbrev pub decreases-loop-a : goal.decreases-loop-a
-decreases-loop-a l = l.n - l.a
