@@ -25,8 +25,7 @@ use Rattle.configurations.specs.LoopAnswer.{Loops, loop, free, loop_answer}
 use Rattle.configurations.specs.Cells.{cells_of, first_twenty}
 use Rattle.configurations.specs.declared.Cells.{Cells}
 use Rattle.blocks.specs.Search.{CellsOf, Found}
-use Rattle.blocks.specs.declared.search.Outcome.{Outcome}
-use Rattle.blocks.specs.declared.search.Outcome.TheVariants.{Loop, Free}
+use Rattle.std.specs.Prelude.{Result, Ok, Err}
 use Rattle.loops.specs.Cells.{present_cells}
 use Rattle.loops.specs.Chase.{returning_state}
 use Rattle.loops.specs.LoopQuestion.{bits_below, present_right, bytes_of_loops, reply_loop, loops_values}
@@ -101,11 +100,11 @@ module _ (b : List ℕ) (p : Places) (present : ℕ) (r : Cells) (known : CellsR
             let n = number in
             answered loops_values (reply_loop (class_of b) present out) (give a (bytes_of_loops a)) (given_reply (class_of b) present out known.right (omega arith) (omega arith) a e) out after g
 
-        pub found_free : (x : Outcome) → Found b present x → (m : ℕ) → x ≡ Free m → Told (0 ∷ 0 ∷ m ∷ []) out
+        pub found_free : (x : Result ℕ ℕ) → Found b present x → (m : ℕ) → x ≡ Ok m → Told (0 ∷ 0 ∷ m ∷ []) out
         unfolding bytes_of_loops
         found_free x told m f = given (free m) (sym (subst (Found b present) f told)) out refl
 
-        pub found_loop : (x : Outcome) → Found b present x → (k : ℕ) → x ≡ Loop k → (q : ℕ) → q ≡ returning_state (class_of b) (chosen (cells_of r) k)
+        pub found_loop : (x : Result ℕ ℕ) → Found b present x → (k : ℕ) → x ≡ Err k → (q : ℕ) → q ≡ returning_state (class_of b) (chosen (cells_of r) k)
             → (after : List ℕ) → after ≡ written (pairs (chosen (cells_of r) k)) out → Told (0 ∷ 1 ∷ k ∷ q ∷ []) after
         unfolding bytes_of_loops list_of
         found_loop x told k f q e after g =

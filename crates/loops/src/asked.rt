@@ -10,7 +10,7 @@ use crate::cells::{read_cells, write_list};
 use crate::chase::returning_in;
 use accepted::held::CLASSES;
 use accepted::readers::{body_of, class_count};
-use blocks::search::{Outcome, search};
+use blocks::search::search;
 use model::{Loops, Refusal};
 use sheet::judging::Places;
 
@@ -18,12 +18,10 @@ use sheet::judging::Places;
 fn present_ok(present: u8, classes: usize) -> bool
     ensures { result ≡ bits_below present classes }
 {
-    let mut i: usize = 0;
-    while i < 8 {
+    for i in 0..8 {
         if ((present >> i) & 1 == 1) & (classes <= i) {
             return false;
         }
-        i = i + 1;
     }
     true
 }
@@ -44,13 +42,12 @@ pub fn loop_with(sheet: &[u8], p: Places, present: u8, out: &mut [u8]) -> Result
     if out.len() < 2 * n {
         return Err(Refusal::Room);
     }
-    let found = search(sheet, p, present, cells);
-    match found {
-        Outcome::Loop(k) => {
+    match search(sheet, p, present, cells) {
+        Err(k) => {
             let q = returning_in(sheet, p, cells, k);
             write_list(cells, k, out);
             Ok(Loops::Loop(k, q))
         }
-        Outcome::Free(m) => Ok(Loops::Free(m)),
+        Ok(m) => Ok(Loops::Free(m)),
     }
 }

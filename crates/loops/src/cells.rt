@@ -28,22 +28,6 @@ fn name_numbered(j: u16) -> ChildName
     ChildName((j % 32) as u8)
 }
 
-// The class of cell i.
-fn class_of_cell(classes: [u8; 20], i: usize) -> ChildClass
-    requires { i < 20 }
-    ensures { result.0 ≡ get_or classes i 0 }
-{
-    ChildClass(classes[i])
-}
-
-// The name of cell i.
-fn name_of_cell(names: [u8; 20], i: usize) -> ChildName
-    requires { i < 20 }
-    ensures { result.0 ≡ get_or names i 0 }
-{
-    ChildName(names[i])
-}
-
 // The name is in the class, and the class is present.
 fn cell_present(classes: &[u8], present: u8, class: ChildClass, name: ChildName) -> bool
     requires { (class.0 < 8) × (name.0 < 32) }
@@ -63,19 +47,15 @@ pub fn read_cells(classes: &[u8], present: u8) -> Cells
     let mut cell_classes = [0u8; 20];
     let mut cell_names = [0u8; 20];
     let mut count = 0;
-    let mut j: u16 = 0;
-    while j < 256 {
+    for j in 0..256 {
         let class = class_numbered(j);
         let name = name_numbered(j);
-        j = j + 1;
         if cell_present(classes, present, class, name) {
             if count < 20 {
                 cell_classes[count] = class.0;
                 cell_names[count] = name.0;
-                count = count + 1;
-            } else {
-                count = count + 1;
             }
+            count += 1;
         }
     }
     Cells {
@@ -90,16 +70,11 @@ pub fn spread(cells: Cells, k: u32) -> [u32; 8]
     requires { (cells.count ≤ 20) × AllSmall cells }
     ensures { Spreads result (chosen (cells_of cells) k) }
 {
-    let classes = cells.classes;
-    let names = cells.names;
     let mut sets = [0u32; 8];
-    let mut i = cells.count;
-    while 0 < i {
-        i = i - 1;
+    for i in (0..cells.count).rev() {
         if (k >> i) & 1 == 1 {
-            let class = class_of_cell(classes, i);
-            let c = class.0 as usize;
-            sets[c] = with_name(sets[c], name_of_cell(names, i));
+            let c = usize::from(cells.classes[i]);
+            sets[c] = with_name(sets[c], ChildName(cells.names[i]));
         }
     }
     sets
@@ -110,18 +85,12 @@ pub fn write_list(cells: Cells, k: u32, out: &mut [u8]) -> usize
     requires { (cells.count ≤ 20) × (2 * cells.count ≤ length out.old) }
     ensures { (out.new ≡ written (pairs (chosen (cells_of cells) k)) out.old) × (result ≡ length (pairs (chosen (cells_of cells) k))) × (result ≤ 2 * cells.count) }
 {
-    let classes = cells.classes;
-    let names = cells.names;
-    let n = cells.count;
     let mut at = 0;
-    let mut next = 0;
-    while next < n {
-        let i = next;
-        next = next + 1;
+    for i in 0..cells.count {
         if (k >> i) & 1 == 1 {
-            out[at] = classes[i];
-            out[at + 1] = names[i];
-            at = at + 2;
+            out[at] = cells.classes[i];
+            out[at + 1] = cells.names[i];
+            at += 2;
         }
     }
     at

@@ -29,8 +29,7 @@ fn next_from(sheet: &[u8], p: Places, list: &[u8], sets: [u32; 8], q: OwnState) 
 {
     let mut unread = [0u8; 1];
     let turned = turn_from(sheet, p, list, sets, q, &mut unread, 0);
-    let turn = turned.turn;
-    match turn {
+    match turned.turn {
         Turn::Moves(t) => t.0,
         Turn::Stops(_) => 255,
     }
@@ -41,13 +40,9 @@ pub fn tabulate(sheet: &[u8], p: Places, list: &[u8], sets: [u32; 8]) -> Table
     requires { Stands sheet.now p × Runnable sets list.now }
     ensures { Tabulates sheet.now list.now result }
 {
-    let n = state_count(sheet, p);
     let mut to = [255u8; 32];
-    let mut q: u8 = 0;
-    while (q as usize) < n {
-        let i = q as usize;
-        to[i] = next_from(sheet, p, list, sets, OwnState(q));
-        q = q + 1;
+    for q in 0..state_count(sheet, p) {
+        to[q] = next_from(sheet, p, list, sets, OwnState(q as u8));
     }
     Table { to }
 }
@@ -57,14 +52,12 @@ fn comes_back(table: Table, n: usize, q: usize) -> bool
     requires { (n ≤ 32) × (q < n) }
     ensures { result ≡ returns_soon (table_next table.to) n q }
 {
-    let to = table.to;
     let mut at = q;
-    let mut moves = 0;
-    while moves < n {
+    for _ in 0..n {
         if 32 <= at {
             return false;
         }
-        let next = to[at] as usize;
+        let next = table.to[at] as usize;
         if next == 255 {
             return false;
         }
@@ -72,7 +65,6 @@ fn comes_back(table: Table, n: usize, q: usize) -> bool
             return true;
         }
         at = next;
-        moves = moves + 1;
     }
     false
 }
@@ -82,12 +74,10 @@ pub fn smallest_returning(table: Table, n: usize) -> OwnState
     requires { n ≤ 32 }
     ensures { result.0 ≡ smallest n (returns_soon (table_next table.to) n) }
 {
-    let mut q = 0;
-    while q < n {
+    for q in 0..n {
         if comes_back(table, n, q) {
             return OwnState(q as u8);
         }
-        q = q + 1;
     }
     OwnState(0)
 }

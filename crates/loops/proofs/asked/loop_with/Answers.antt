@@ -35,8 +35,8 @@ returns-then-out-n c =
     let known = cells_read _ _ c.requires _ (omega arith) _ c.class_count.ensures.0 _ c.present_ok.ensures c.if-not-present_ok.false _ c.body_of.ensures _ c.read_cells-cells.ensures in
     short_refused _ _ _ _ known _ c.if-n-gt20.false c.if-out-n.true
 
-pub search-found-requires : goal.search-found-requires
-search-found-requires c =
+pub search-requires : goal.search-requires
+search-requires c =
     let known = cells_read _ _ c.requires _ (omega arith) _ c.class_count.ensures.0 _ c.present_ok.ensures c.if-not-present_ok.false _ c.body_of.ensures _ c.read_cells-cells.ensures in
     (known.stands, cells_known _ _ _ _ known c.if-n-gt20.false)
 
@@ -45,12 +45,12 @@ returning_in-q-requires c =
     let known = cells_read _ _ c.requires _ (omega arith) _ c.class_count.ensures.0 _ c.present_ok.ensures c.if-not-present_ok.false _ c.body_of.ensures _ c.read_cells-cells.ensures in
     (known.stands, (c.if-n-gt20.false, (cells_known _ _ _ _ known c.if-n-gt20.false).small))
 
-pub returns-in-Loop : goal.returns-in-Loop
-returns-in-Loop c =
+pub returns-in-Err : goal.returns-in-Err
+returns-in-Err c =
     let known = cells_read _ _ c.requires _ (omega arith) _ c.class_count.ensures.0 _ c.present_ok.ensures c.if-not-present_ok.false _ c.body_of.ensures _ c.read_cells-cells.ensures in
-    found_loop _ _ _ _ known _ c.if-n-gt20.false c.if-out-n.false _ c.search-found.ensures _ c.in-Loop.is _ c.returning_in-q.ensures _ c.write_list.ensures.0
+    found_loop _ _ _ _ known _ c.if-n-gt20.false c.if-out-n.false _ c.search.ensures _ c.in-Err.is _ c.returning_in-q.ensures _ c.write_list.ensures.0
 
-pub returns-in-Free : goal.returns-in-Free
-returns-in-Free c =
+pub returns-in-Ok : goal.returns-in-Ok
+returns-in-Ok c =
     let known = cells_read _ _ c.requires _ (omega arith) _ c.class_count.ensures.0 _ c.present_ok.ensures c.if-not-present_ok.false _ c.body_of.ensures _ c.read_cells-cells.ensures in
-    found_free _ _ _ _ known _ c.if-n-gt20.false c.if-out-n.false _ c.search-found.ensures _ c.in-Free.is
+    found_free _ _ _ _ known _ c.if-n-gt20.false c.if-out-n.false _ c.search.ensures _ c.in-Ok.is

@@ -6,6 +6,3 @@ use Rattle.loops.proofs.cells.read_cells.Given as goal
 
 abbrev pub invariant-loop-j : goal.invariant-loop-j
 invariant-loop-j l = Reading l.classes l.present l.cell_classes l.cell_names l.count l.j
-
-abbrev pub decreases-loop-j : goal.decreases-loop-j
-decreases-loop-j l = 256 - l.j

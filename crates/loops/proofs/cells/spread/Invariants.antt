@@ -5,7 +5,4 @@ use Rattle.loops.proofs.SpreadLaws.{Spreading}
 use Rattle.loops.proofs.cells.spread.Given as goal
 
 abbrev pub invariant-loop-i : goal.invariant-loop-i
-invariant-loop-i l = Spreading l.classes l.names l.initial.i l.k l.sets l.i
-
-abbrev pub decreases-loop-i : goal.decreases-loop-i
-decreases-loop-i l = l.i
+invariant-loop-i l = Spreading l.cells.classes l.cells.names l.cells.count l.k l.sets l.i

@@ -4,18 +4,19 @@ use native.Mathlib.Omega.{arith}
 use lib.Seq.{lt-length-set}
 use Rattle.loops.proofs.WritingLaws.{writing_start, writing_more, writing_past, writing_end}
 use Rattle.loops.proofs.cells.write_list.Goals as goal
+use Rattle.loops.proofs.cells.write_list.Goals.{then-k-i-eq1, else-k-i-eq1}
 
-pub loop-next-init : goal.loop-next-init
-loop-next-init c = writing_start _ _ _ _ _ c.requires.1
+pub loop-i-init : goal.loop-i-init
+loop-i-init c = writing_start _ _ _ _ _ c.requires.1
 
 pub bounds-out-at-then-k-i-eq1 : goal.bounds-out-at-then-k-i-eq1
-bounds-out-at-then-k-i-eq1 c = lt-length-set c.loop-next.out _ _ (omega arith)
+bounds-out-at-then-k-i-eq1 c = lt-length-set c.loop-i.out _ _ (omega arith)
 
-pub loop-next-preserved-then-k-i-eq1 : goal.loop-next-preserved-then-k-i-eq1
-loop-next-preserved-then-k-i-eq1 c = writing_more _ _ _ _ _ _ _ _ c.loop-next.invariant c.loop-next-test.true c.if-k-i-eq1.true
-
-pub loop-next-preserved : goal.loop-next-preserved
-loop-next-preserved c = writing_past _ _ _ _ _ _ _ _ c.loop-next.invariant c.loop-next-test.true c.if-k-i-eq1.false
+pub loop-i-preserved : goal.loop-i-preserved
+loop-i-preserved c =
+    elim c.if-k-i-eq1.branch [
+      then-k-i-eq1 w ↦ rw (w.out-is, w.at-is) (writing_more _ _ _ _ _ _ _ _ c.loop-i.invariant c.loop-i-test.true w.if-k-i-eq1.true)
+    | else-k-i-eq1 w ↦ rw (w.out-is, w.at-is) (writing_past _ _ _ _ _ _ _ _ c.loop-i.invariant c.loop-i-test.true w.if-k-i-eq1.false) ]
 
 pub returns : goal.returns
-returns c = writing_end _ _ _ _ _ _ _ _ c.loop-next.invariant c.loop-next-test.false
+returns c = writing_end _ _ _ _ _ _ _ _ c.loop-i.invariant c.loop-i-test.false

@@ -4,8 +4,5 @@ use Prim.Native.Nat.{◌-◌}
 use Rattle.loops.proofs.WritingLaws.{Writing}
 use Rattle.loops.proofs.cells.write_list.Given as goal
 
-abbrev pub invariant-loop-next : goal.invariant-loop-next
-invariant-loop-next l = Writing l.classes l.names l.n l.k l.initial.out l.out l.at l.next
-
-abbrev pub decreases-loop-next : goal.decreases-loop-next
-decreases-loop-next l = l.n - l.next
+abbrev pub invariant-loop-i : goal.invariant-loop-i
+invariant-loop-i l = Writing l.cells.classes l.cells.names l.cells.count l.k l.initial.out l.out l.at l.i

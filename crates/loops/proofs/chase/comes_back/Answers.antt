@@ -4,20 +4,20 @@ use borrow.Author.Rules.{rules}
 use Rattle.loops.proofs.WalkLaws.{walking_start, walking_out, walking_stops, walking_back, walking_more, walking_all}
 use Rattle.loops.proofs.chase.comes_back.Goals as goal
 
-pub loop-moves-init : goal.loop-moves-init
-loop-moves-init c = walking_start _ _ _ (search rules)
+pub loop-init : goal.loop-init
+loop-init c = walking_start _ _ _ (search rules)
 
 pub returns-then-at-ge32 : goal.returns-then-at-ge32
-returns-then-at-ge32 c = walking_out _ _ _ _ _ c.loop-moves.invariant c.loop-moves-test.true c.if-at-ge32.true
+returns-then-at-ge32 c = walking_out _ _ _ _ _ c.loop.invariant c.loop-test.true c.if-at-ge32.true
 
 pub returns-then-next-eq255 : goal.returns-then-next-eq255
-returns-then-next-eq255 c = walking_stops _ _ _ _ _ c.loop-moves.invariant c.loop-moves-test.true c.if-at-ge32.false c.if-next-eq255.true
+returns-then-next-eq255 c = walking_stops _ _ _ _ _ c.loop.invariant c.loop-test.true c.if-at-ge32.false c.if-next-eq255.true
 
 pub returns-then-next-q : goal.returns-then-next-q
-returns-then-next-q c = walking_back _ _ _ _ _ c.loop-moves.invariant c.if-at-ge32.false c.if-next-eq255.false c.loop-moves-test.true c.if-next-q.true
+returns-then-next-q c = walking_back _ _ _ _ _ c.loop.invariant c.if-at-ge32.false c.if-next-eq255.false c.loop-test.true c.if-next-q.true
 
-pub loop-moves-preserved : goal.loop-moves-preserved
-loop-moves-preserved c = walking_more _ _ _ _ _ c.loop-moves.invariant c.if-at-ge32.false c.if-next-eq255.false c.loop-moves-test.true c.if-next-q.false
+pub loop-preserved : goal.loop-preserved
+loop-preserved c = walking_more _ _ _ _ _ c.loop.invariant c.if-at-ge32.false c.if-next-eq255.false c.loop-test.true c.if-next-q.false
 
 pub returns : goal.returns
-returns c = walking_all _ _ _ _ _ c.loop-moves.invariant c.loop-moves-test.false
+returns c = walking_all _ _ _ _ _ c.loop.invariant c.loop-test.false

@@ -4,8 +4,5 @@ use Prim.Native.Nat.{◌-◌}
 use Rattle.loops.proofs.WalkLaws.{Walking}
 use Rattle.loops.proofs.chase.comes_back.Given as goal
 
-abbrev pub invariant-loop-moves : goal.invariant-loop-moves
-invariant-loop-moves l = Walking l.to l.n l.q l.at l.moves
-
-abbrev pub decreases-loop-moves : goal.decreases-loop-moves
-decreases-loop-moves l = l.n - l.moves
+abbrev pub invariant-loop : goal.invariant-loop
+invariant-loop l = Walking l.table.to l.n l.q l.at l.counter

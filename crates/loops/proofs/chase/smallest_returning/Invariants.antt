@@ -9,6 +9,3 @@ use Rattle.loops.proofs.chase.smallest_returning.Given as goal
 
 abbrev pub invariant-loop-q : goal.invariant-loop-q
 invariant-loop-q l = (l.q ≤ l.n) × ((j : ℕ) → j < l.q → returns_soon (table_next l.table.to) l.n j ≡ false)
-
-abbrev pub decreases-loop-q : goal.decreases-loop-q
-decreases-loop-q l = l.n - l.q
