@@ -16,7 +16,7 @@ use model::OwnState;
 use phases::{Turn, turn_from};
 use sheet::judging::Places;
 
-// Where each state's next move leads; 255 where it makes none.
+// Where each state's next move leads; 255 where it makes none, as `leads` of specs/ reads a byte.
 #[derive(Clone, Copy)]
 pub struct Table {
     pub to: [u8; 32],

@@ -10,14 +10,16 @@ loop-j-init c = reading_start _ _
 pub loop-j-preserved : goal.loop-j-preserved
 loop-j-preserved c =
     elim c.if-cell_present.branch [
-      then-cell_present w ↦
-        elim w.if-count-lt20.branch [
-          then-count-lt20 v ↦ rw (w.cell_classes-is, w.cell_names-is, w.count-is, v.cell_classes-is, v.cell_names-is)
-              (reading_more _ _ _ _ _ _ c.loop-j.invariant c.loop-j-test.true _ _ c.class_numbered-class.ensures c.name_numbered-name.ensures _ c.cell_present.ensures w.if-cell_present.true)
-        | else-count-lt20 v ↦ rw (w.cell_classes-is, w.cell_names-is, w.count-is, v.cell_classes-is, v.cell_names-is)
-              (reading_full _ _ _ _ _ _ c.loop-j.invariant c.loop-j-test.true _ _ c.class_numbered-class.ensures c.name_numbered-name.ensures _ c.cell_present.ensures w.if-cell_present.true v.if-count-lt20.false) ]
-    | else-cell_present w ↦ rw (w.cell_classes-is, w.cell_names-is, w.count-is)
-          (reading_past _ _ _ _ _ _ c.loop-j.invariant c.loop-j-test.true _ _ c.class_numbered-class.ensures c.name_numbered-name.ensures _ c.cell_present.ensures w.if-cell_present.false) ]
+      | then-cell_present w ↦
+          elim w.if-count-lt20.branch [
+            | then-count-lt20 v ↦ rw (w.cell_classes-is, w.cell_names-is, w.count-is, v.cell_classes-is, v.cell_names-is)
+                (reading_more _ _ _ _ _ _ c.loop-j.invariant c.loop-j-test.true _ _ c.class_numbered-class.ensures c.name_numbered-name.ensures _ c.cell_present.ensures w.if-cell_present.true)
+            | else-count-lt20 v ↦ rw (w.cell_classes-is, w.cell_names-is, w.count-is, v.cell_classes-is, v.cell_names-is)
+                (reading_full _ _ _ _ _ _ c.loop-j.invariant c.loop-j-test.true _ _ c.class_numbered-class.ensures c.name_numbered-name.ensures _ c.cell_present.ensures w.if-cell_present.true v.if-count-lt20.false)
+          ]
+      | else-cell_present w ↦ rw (w.cell_classes-is, w.cell_names-is, w.count-is)
+          (reading_past _ _ _ _ _ _ c.loop-j.invariant c.loop-j-test.true _ _ c.class_numbered-class.ensures c.name_numbered-name.ensures _ c.cell_present.ensures w.if-cell_present.false)
+    ]
 
 pub returns : goal.returns
 returns c = reading_end _ _ _ _ _ _ c.loop-j.invariant c.loop-j-test.false

@@ -1,6 +1,5 @@
 -- `read_cells`: after j pairs the code has read the first twenty of those that are present, and counted all, `Reading`.
 -- Assumes nothing.
-use Prim.Native.Nat.{◌-◌}
 use Rattle.loops.proofs.CellLaws.{Reading}
 use Rattle.loops.proofs.cells.read_cells.Given as goal
 

@@ -15,8 +15,9 @@ bounds-out-at-then-k-i-eq1 c = lt-length-set c.loop-i.out _ _ (omega arith)
 pub loop-i-preserved : goal.loop-i-preserved
 loop-i-preserved c =
     elim c.if-k-i-eq1.branch [
-      then-k-i-eq1 w ↦ rw (w.out-is, w.at-is) (writing_more _ _ _ _ _ _ _ _ c.loop-i.invariant c.loop-i-test.true w.if-k-i-eq1.true)
-    | else-k-i-eq1 w ↦ rw (w.out-is, w.at-is) (writing_past _ _ _ _ _ _ _ _ c.loop-i.invariant c.loop-i-test.true w.if-k-i-eq1.false) ]
+      | then-k-i-eq1 w ↦ rw (w.out-is, w.at-is) (writing_more _ _ _ _ _ _ _ _ c.loop-i.invariant c.loop-i-test.true w.if-k-i-eq1.true)
+      | else-k-i-eq1 w ↦ rw (w.out-is, w.at-is) (writing_past _ _ _ _ _ _ _ _ c.loop-i.invariant c.loop-i-test.true w.if-k-i-eq1.false)
+    ]
 
 pub returns : goal.returns
 returns c = writing_end _ _ _ _ _ _ _ _ c.loop-i.invariant c.loop-i-test.false

@@ -1,6 +1,5 @@
 -- `write_list`: the pairs of the cells so far that k chooses are written at the head, `Writing`.
 -- Assumes nothing.
-use Prim.Native.Nat.{◌-◌}
 use Rattle.loops.proofs.WritingLaws.{Writing}
 use Rattle.loops.proofs.cells.write_list.Given as goal
 

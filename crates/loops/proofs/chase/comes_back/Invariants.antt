@@ -1,6 +1,5 @@
 -- `comes_back`: the walk so far, `Walking`: after so many moves it is at a state, and has not been at q again.
 -- Assumes nothing.
-use Prim.Native.Nat.{◌-◌}
 use Rattle.loops.proofs.WalkLaws.{Walking}
 use Rattle.loops.proofs.chase.comes_back.Given as goal
 

@@ -1,6 +1,6 @@
 -- `tabulate`: the table of the first q states, `Tabulating`; past the last state no move is made.
 -- Assumes nothing.
-use Prim.Native.Nat.{◌-◌, ◌≤◌}
+use Prim.Native.Nat.{◌≤◌}
 use Rattle.loops.proofs.TableLaws.{Tabulating}
 use Rattle.loops.proofs.chase.tabulate.Given as goal
 
