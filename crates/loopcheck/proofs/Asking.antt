@@ -6,6 +6,7 @@ use native.Mathlib.Nat.{mod-eq_of_lt}
 use mathlib.Core.Path.{◌≡◌, refl, sym, ◌∙◌, ap}
 use mathlib.Core.List.{List, [], ◌∷◌}
 use lib.Pow.{pow_mono, pow_pos}
+use Rattle.std.specs.Prelude.{Err}
 use Rattle.model.specs.Refusals.{number_of}
 use Rattle.model.specs.Replies.{refuse, Answered}
 use Rattle.model.specs.declared.Refusal.{Refusal}
@@ -13,10 +14,8 @@ use Rattle.model.proofs.ReplyLaws.{answered}
 use Rattle.records.specs.Bytes.{in_fours}
 use Rattle.sheet.specs.Contents.{bodies, body}
 use Rattle.sheet.specs.Reading.{class_of}
-use Rattle.sheet.specs.Verdict.{verdict_numbers, verdict, Stands}
+use Rattle.sheet.specs.Verdict.{Verdict, verdict_numbers, verdict, Stands}
 use Rattle.sheet.specs.declared.judging.Places.{Places}
-use Rattle.sheet.specs.declared.judging.Verdict.{Verdict}
-use Rattle.sheet.specs.declared.judging.Verdict.TheVariants.{Refused}
 use Rattle.sheet.proofs.Reading.{child_classes_in}
 use Rattle.sheet.proofs.AskedLaws.{asked, refused_too}
 use Rattle.loops.specs.LoopQuestion.{reply_loop, loops_values}
@@ -30,7 +29,7 @@ low_bits k h =
     (ap (λ (x : ℕ). x % 2 ^ 16) e ∙ mod-eq_of_lt (omega arith), pow_pos k, omega arith)
 
 -- a refused sheet is refused with all classes present too
-pub refused_told : (b list : List ℕ) (r : Verdict) (x : Refusal) → verdict_numbers r ≡ verdict b → r ≡ Refused x
+pub refused_told : (b list : List ℕ) (r : Verdict) (x : Refusal) → verdict_numbers r ≡ verdict b → r ≡ Err x
     → Answered loops_values (loop_reply b list) list (number_of x ∷ []) list
 unfolding loop_reply
 refused_told b list r x e a =

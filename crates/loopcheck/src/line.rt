@@ -9,7 +9,7 @@ use accepted::readers::class_count;
 use loopline::loopcheck_line;
 use loops::asked::loop_with;
 use model::{Loops, Refusal};
-use sheet::judging::{Verdict, judge};
+use sheet::judging::judge;
 
 // A line has less than 1,024 bytes: a list has at most 20 children.
 pub const LINE: usize = 1024;
@@ -27,20 +27,20 @@ fn all_classes(k: usize) -> u8
 fn ask(sheet: &[u8], list: &mut [u8]) -> Result<Loops, Refusal>
     ensures { Answered loops_values (loop_reply sheet.now list.old) list.old (loop_numbers result) list.new }
 {
-    let verdict = judge(sheet);
-    match verdict {
-        Verdict::Accepted(p) => loop_with(sheet, p, all_classes(class_count(sheet, p)), list),
-        Verdict::Refused(x) => Err(x),
-    }
+    let p = judge(sheet)?;
+    loop_with(sheet, p, all_classes(class_count(sheet, p)), list)
 }
 
 // How many children the list of an answer has: one for each set bit of a loop's configuration.
 fn children_in(answer: Result<Loops, Refusal>) -> usize
     ensures { result ≡ children_in answer }
 {
-    match answer {
-        Ok(Loops::Loop(k, _)) => k.count_ones() as usize,
-        _ => 0,
+    let Ok(found) = answer else {
+        return 0;
+    };
+    match found {
+        Loops::Loop(k, _) => k.count_ones() as usize,
+        Loops::Free(_) => 0,
     }
 }
 

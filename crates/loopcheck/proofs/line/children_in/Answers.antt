@@ -8,4 +8,4 @@ pub overflow_cast-result : goal.overflow_cast-result
 overflow_cast-result c = omega (arith, ones-le 32 c.in-Loop.k (omega arith))
 
 pub returns-in-Loop : goal.returns-in-Loop
-returns-in-Loop c = rw (c.in-Given.is, c.in-Loop.is)
+returns-in-Loop c = rw (c.in-Ok.is, c.in-Loop.is)
