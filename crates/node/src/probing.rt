@@ -24,12 +24,14 @@ fn first_true(sheet: &[u8], p: Places, first: usize, n: usize, sets: [u32; 8]) -
     requires { Stands sheet.now p × ((first ≤ 67108864) × (n < 65536)) }
     ensures { result ≡ first_hit sheet.now sets first n }
 {
+    let mut hit = None;
     for i in 0..n {
         if clause_holds(sheet, p, first + i, sets) {
-            return Some(i);
+            hit = Some(i);
+            break;
         }
     }
-    None
+    hit
 }
 
 // The probe of state q.

@@ -1,7 +1,9 @@
 -- `first_true` meets its contract. The loop's invariant, `NoneBefore`: no clause before the i-th is true.
 -- Assumes nothing.
+use mathlib.Core.Path.{◌≡◌}
+use Rattle.std.specs.Prelude.{None}
 use Rattle.node.proofs.ProbeLaws.{NoneBefore}
 use Rattle.node.proofs.probing.first_true.Given as goal
 
 abbrev pub invariant-loop-i : goal.invariant-loop-i
-invariant-loop-i l = NoneBefore l.sheet l.sets l.first l.i
+invariant-loop-i l = (l.hit ≡ None) × NoneBefore l.sheet l.sets l.first l.i
