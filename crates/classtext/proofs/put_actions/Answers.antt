@@ -6,19 +6,8 @@ use Rattle.pen.proofs.Puts.{going_none, going_on, going_end}
 use Rattle.classtext.proofs.ClassLaws.{one_less, none_left, actions_start, action_inside}
 use Rattle.classtext.proofs.put_actions.Goals as goal
 
-pub clauses_of-clauses-requires : goal.clauses_of-clauses-requires
-clauses_of-clauses-requires c = (c.requires.stands, omega arith)
-
 pub loop-i-init : goal.loop-i-init
 loop-i-init c = going_none _ _ _ (omega arith)
-
-pub overflow_add-first : goal.overflow_add-first
-overflow_add-first c =
-    let t = c.loop-i-test.true in
-    omega (arith, c.clauses_of-clauses.ensures.first_small, c.clauses_of-clauses.ensures.count_small)
-
-pub put_action-end-requires-clause-stands : goal.put_action-end-requires-clause-stands
-put_action-end-requires-clause-stands c = c.requires.stands
 
 pub put_action-end-requires-clause-a_bound : goal.put_action-end-requires-clause-a_bound
 put_action-end-requires-clause-a_bound c =

@@ -6,23 +6,11 @@ use Rattle.pen.proofs.Puts.{going_none, going_on, going_end}
 use Rattle.classtext.proofs.ClassLaws.{states_start, state_less, no_state_left}
 use Rattle.classtext.proofs.put_states.Goals as goal
 
-pub state_count-n-requires : goal.state_count-n-requires
-state_count-n-requires c = c.requires
-
 pub loop-q-init : goal.loop-q-init
 loop-q-init c =
     let x = c.args in
     let e = states_start x.sheet.now x.own.now (lent x.names.now x.commands.now x.classes.now) _ c.state_count-n.ensures.0 in
     rw (← e) (going_none _ _ _ (omega arith))
-
-pub overflow_cast-here : goal.overflow_cast-here
-overflow_cast-here c = omega (arith, c.loop-q-test.true, c.state_count-n.ensures.1)
-
-pub put_state-end-requires-clause-stands : goal.put_state-end-requires-clause-stands
-put_state-end-requires-clause-stands c = c.requires
-
-pub put_state-end-requires-clause-q_bound : goal.put_state-end-requires-clause-q_bound
-put_state-end-requires-clause-q_bound c = omega (arith, c.loop-q-test.true, c.state_count-n.ensures.0)
 
 pub loop-q-preserved : goal.loop-q-preserved
 loop-q-preserved c = going_on c.loop-q.invariant (state_less _ _ _ _ _ c.loop-q-test.true) c.put_state-end.ensures

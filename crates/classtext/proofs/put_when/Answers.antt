@@ -1,6 +1,5 @@
 -- The words of a when clause, one behind the other.
 -- Assumes nothing.
-use native.Mathlib.Omega.{arith}
 use Rattle.model.specs.Words.{listed}
 use Rattle.grammar.specs.Words.{spelled}
 use Rattle.classtext.proofs.ClassLaws.{when_small, when_puts}
@@ -8,12 +7,6 @@ use Rattle.classtext.proofs.put_when.Goals as goal
 
 pub guard_place-requires : goal.guard_place-requires
 guard_place-requires c = when_small _ _ c.requires.stands _ _ c.requires.when_of
-
-pub clauses_of-clauses-requires : goal.clauses_of-clauses-requires
-clauses_of-clauses-requires c = (c.requires.stands, omega arith)
-
-pub body_of-actions-requires : goal.body_of-actions-requires
-body_of-actions-requires c = (c.requires.stands, omega arith)
 
 pub referrer_at-referrer-requires : goal.referrer_at-referrer-requires
 referrer_at-referrer-requires c = when_small _ _ c.requires.stands _ _ c.requires.when_of

@@ -6,22 +6,11 @@ use Rattle.pen.proofs.Puts.{going_none, going_on, going_end}
 use Rattle.classtext.proofs.ClassLaws.{one_less, none_left, whens_start, when_of_state}
 use Rattle.classtext.proofs.put_whens.Goals as goal
 
-pub clauses_of-clauses-requires : goal.clauses_of-clauses-requires
-clauses_of-clauses-requires c = (c.requires.stands, omega arith)
-
 pub loop-i-init : goal.loop-i-init
 loop-i-init c =
     let x = c.args in
     let e = whens_start x.sheet.now x.q.0 x.own.now (lent x.names.now x.commands.now x.classes.now) _ _ c.clauses_of-clauses.ensures.first_is c.clauses_of-clauses.ensures.count_is in
     rw (← e) (going_none _ _ _ (omega arith))
-
-pub overflow_add-first : goal.overflow_add-first
-overflow_add-first c =
-    let t = c.loop-i-test.true in
-    omega (arith, c.clauses_of-clauses.ensures.first_small, c.clauses_of-clauses.ensures.count_small)
-
-pub put_when-end-requires-clause-stands : goal.put_when-end-requires-clause-stands
-put_when-end-requires-clause-stands c = c.requires.stands
 
 pub put_when-end-requires-clause-when_of : goal.put_when-end-requires-clause-when_of
 put_when-end-requires-clause-when_of c =
