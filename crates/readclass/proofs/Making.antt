@@ -9,23 +9,21 @@ use Rattle.naming.specs.NameLists.{Lists}
 use Rattle.readings.specs.Promise.{Answered}
 use Rattle.classfile.specs.Heads as H
 use Rattle.classfile.specs.Heads.{stretch, head_of, Rooms}
-use Rattle.classfile.specs.Reads.{HeadRead, rooms, shown}
+use Rattle.classfile.specs.Reads.{Answer, head_answer, bad_line, HeadRead, rooms, shown}
 use Rattle.classfile.specs.declared.parts.Fault.{Fault}
 use Rattle.classfile.specs.declared.heads.Used.{Used}
-use Rattle.classfile.specs.declared.heads.HeadAnswer.{HeadAnswer}
-use Rattle.classfile.specs.declared.heads.HeadAnswer.TheVariants as A
 use Rattle.classfile.proofs.GivenLaws.{head_read, head_wrong, full_room}
 use Rattle.readclass.specs.Made.{size_read, TextRead, Made, Converted}
 use Rattle.model.specs.Answers.{ReadAnswer}
 
-module _ (file n c k : List ℕ) (r : HeadAnswer) (n' c' k' : List ℕ) (h : HeadRead file n c k r n' c' k') (before : List ℕ) where
+module _ (file n c k : List ℕ) (r : Answer) (n' c' k' : List ℕ) (h : HeadRead file n c k r n' c' k') (before : List ℕ) where
   -- a head that is read, and the text behind it
-  pub made_read : (u : Used) (start : ℕ) → r ≡ A.Read u start → (size : ℕ) (after : List ℕ)
+  pub made_read : (u : Used) (start : ℕ) → r ≡ head_answer u start → (size : ℕ) (after : List ℕ)
       → TextRead (stretch file start (length file)) (shown u n' c' k') before size after → Made (head_of file (rooms n c k)) file before size after
   made_read u start e size after t = subst (λ (o : H.Outcome). Made o file before size after) (sym (head_read file n c k r n' c' k' h u start e)) t
 
   -- a head that is not
-  pub made_bad : (x : Fault) (start end : ℕ) → r ≡ A.Bad x start end → Made (head_of file (rooms n c k)) file before 0 before
+  pub made_bad : (x : Fault) (start end : ℕ) → r ≡ bad_line x start end → Made (head_of file (rooms n c k)) file before 0 before
   made_bad x start end e =
       let (l, w) = head_wrong file n c k r n' c' k' h x start end e in
       subst (λ (o : H.Outcome). Made o file before 0 before) (sym w) (refl, refl)

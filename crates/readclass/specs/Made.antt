@@ -1,19 +1,18 @@
 -- What the program prints of a class file: the sheet of its class text, read with the lists of its head; nothing where either is refused.
 -- Assumes nothing.
-use Rattle.std.specs.Prelude.{ℕ, ◌<◌, ◌≤◌, ◌≡◌, List, length, replicate, Ok, Err}
+use Rattle.std.specs.Prelude.{ℕ, ◌<◌, ◌≤◌, ◌≡◌, List, length, replicate, Result, Ok, Err}
 use Rattle.naming.specs.NameLists.{Lists}
 use Rattle.readings.specs.Promise.{Answered}
 use Rattle.classfile.specs.Heads as H
 use Rattle.classfile.specs.Heads.{stretch, head_of, room}
-use Rattle.readclass.specs.declared.converting.Outcome.{Outcome}
-use Rattle.readclass.specs.declared.converting.Outcome.TheVariants as O
+use Rattle.saying.specs.declared.Why.{Why}
 use Rattle.model.specs.declared.Misread.TheVariants.{Refused, WrongWord}
 use Rattle.model.specs.Answers.{ReadAnswer}
 
 -- how many bytes of the sheet are printed
-abbrev pub size_of : Outcome → ℕ
-size_of (O.Sheet size) = size
-size_of (O.Refused why) = 0
+abbrev pub size_of : Result ℕ Why → ℕ
+size_of (Ok size) = size
+size_of (Err why) = 0
 
 abbrev pub size_read : ReadAnswer → ℕ
 size_read (Ok (size, states)) = size

@@ -6,7 +6,7 @@ ghost use Rattle.classfile.specs.Reads.{Fits, rooms};
 ghost use Rattle.readclass.specs.Made.{size_of, TextRead, Made, Converted};
 
 use crate::reasons::{too_long, wrong_text, wrong_word};
-use classfile::heads::{CLASSES, COMMANDS, HeadAnswer, NAMES, Used, read_head};
+use classfile::heads::{CLASSES, COMMANDS, NAMES, Used, read_head};
 use model::Misread;
 use reading::read_class;
 use saying::Why;
@@ -16,14 +16,7 @@ use saying::places::in_file;
 // The longest file.
 const FILE: usize = 1310720;
 
-// A sheet of so many bytes, or why there is none.
-#[derive(Clone, Copy)]
-pub enum Outcome {
-    Sheet(usize),
-    Refused(Why),
-}
-
-// The sheet of the class text that starts at a place of the file. A table of own states has 32 names, as the names line may have.
+// The sheet of the class text that starts at a place of the file: how many bytes it has, or why there is none. A table of own states has 32 names, as the names line may have.
 fn text_made(
     file: &[u8],
     start: usize,
@@ -31,26 +24,16 @@ fn text_made(
     commands: &[u8],
     classes: &[u8],
     sheet: &mut [u8],
-) -> Outcome
+) -> Result<usize, Why>
     requires { start ≤ length file.now }
     ensures { TextRead (stretch file.now start (length file.now)) (lent names.now commands.now classes.now) sheet.old (size_of result) sheet.new }
 {
     let mut table = [0u8; NAMES];
     let answer = read_class(&file[start..], names, commands, classes, sheet, &mut table);
     match answer {
-        Ok((size, _)) => Outcome::Sheet(size),
-        Err(Misread::WrongWord(place)) => Outcome::Refused(wrong_word(
-            file,
-            in_file(file, start, place),
-        )),
-        Err(Misread::Refused(x)) => Outcome::Refused(wrong_text(
-            u64::from(x),
-            file,
-            start,
-            names,
-            commands,
-            classes,
-        )),
+        Ok((size, _)) => Ok(size),
+        Err(Misread::WrongWord(place)) => Err(wrong_word(file, in_file(file, start, place))),
+        Err(Misread::Refused(x)) => Err(wrong_text(x, file, start, names, commands, classes)),
     }
 }
 
@@ -63,7 +46,7 @@ fn lists_made(
     commands: &[u8],
     classes: &[u8],
     sheet: &mut [u8],
-) -> Outcome
+) -> Result<usize, Why>
     requires start_in_bounds { start ≤ length file.now }
     requires fits { Fits used names.now commands.now classes.now }
     ensures { TextRead (stretch file.now start (length file.now)) (lent (take used.names names.now) (take used.commands commands.now) (take used.classes classes.now)) sheet.old (size_of result) sheet.new }
@@ -88,24 +71,22 @@ fn head_made(
     commands: &mut [u8],
     classes: &mut [u8],
     sheet: &mut [u8],
-) -> Outcome
+) -> Result<usize, Why>
     ensures { Made (head_of file.now (rooms names.old commands.old classes.old)) file.now sheet.old (size_of result) sheet.new }
 {
     let answer = read_head(file, names, commands, classes);
     match answer {
-        HeadAnswer::Bad(fault, start, end) => Outcome::Refused(wrong_line(file, fault, start, end)),
-        HeadAnswer::Read(used, start) => lists_made(
-            file, start, used, names, commands, classes, sheet,
-        ),
+        Err(bad) => Err(wrong_line(file, bad.fault, bad.start, bad.end)),
+        Ok((used, start)) => lists_made(file, start, used, names, commands, classes, sheet),
     }
 }
 
 // The sheet of a class file.
-pub fn convert(file: &[u8], sheet: &mut [u8]) -> Outcome
+pub fn convert(file: &[u8], sheet: &mut [u8]) -> Result<usize, Why>
     ensures { Converted file.now sheet.old (size_of result) sheet.new }
 {
     if FILE < file.len() {
-        return Outcome::Refused(too_long());
+        return Err(too_long());
     }
     let mut names = [0u8; NAMES];
     let mut commands = [0u8; COMMANDS];

@@ -10,7 +10,7 @@ mod sizing;
 
 ghost use Rattle.std.specs.Prelude.{◌≡◌, length};
 
-use converting::{Outcome, convert};
+use converting::convert;
 use messages::say_refused;
 use texts::writing::least;
 
@@ -28,13 +28,12 @@ fn main() {
     let mut file = room();
     let n = io::read_full(0, &mut file);
     let mut sheet = [0u8; SHEET];
-    let outcome = convert(&file[..n], &mut sheet);
-    match outcome {
-        Outcome::Sheet(size) => {
+    match convert(&file[..n], &mut sheet) {
+        Ok(size) => {
             let k = least(size, SHEET);
             io::write_all(1, &sheet[..k]);
         }
-        Outcome::Refused(why) => {
+        Err(why) => {
             say_refused(&file[..n], why);
         }
     }

@@ -1,12 +1,17 @@
 // Why a class file is refused, by what was found to be wrong. The numbers of the messages are those of the lines in `messages`.
 ghost use Rattle.std.specs.Prelude.{◌≤◌, length};
 
-use crate::blame::{Blame, name_to_blame};
-use crate::sizing::{Passed, limit_passed};
+use crate::blame::name_to_blame;
+use crate::sizing::limit_passed;
+use kinds::END;
+use model::Refusal;
 use saying::heads::is_long;
 use saying::places::in_file;
-use saying::{COLUMN, Why, alone, at_word};
+use saying::{Said, Why, alone, at_word};
 use words::next_word;
+
+// The message of the first cause of `blame`; before it stand those of the limits of `sizing`.
+const NAMES: u8 = 7;
 
 // The file is too long.
 pub fn too_long() -> Why {
@@ -16,13 +21,13 @@ pub fn too_long() -> Why {
 // 16: the word that stands at a place of the file cannot stand there, or the file ends.
 pub fn wrong_word(file: &[u8], place: usize) -> Why {
     let word = next_word(file, place);
-    if word.kind == 26 {
-        return at_word(14, COLUMN, place, place);
+    if word.kind == END {
+        return at_word(14, Said::Column, place, place);
     }
     if is_long(word.start, word.end) {
-        return at_word(16, COLUMN, place, word.end);
+        return at_word(16, Said::Column, place, word.end);
     }
-    at_word(15, COLUMN, place, word.end)
+    at_word(15, Said::Column, place, word.end)
 }
 
 // 17: a name of the class text, which starts at a place of the file.
@@ -36,15 +41,14 @@ fn wrong_name(
 ) -> Why
     requires { start ≤ length file.now }
 {
-    let found = name_to_blame(text, names, commands, classes);
-    match found {
-        Blame::Name(message, from, to) => at_word(
-            message,
-            COLUMN,
-            in_file(file, start, from),
-            in_file(file, start, to),
+    match name_to_blame(text, names, commands, classes) {
+        Some(blame) => at_word(
+            NAMES + blame.cause as u8,
+            Said::Column,
+            in_file(file, start, blame.start),
+            in_file(file, start, blame.end),
         ),
-        Blame::Nothing => alone(18),
+        None => alone(18),
     }
 }
 
@@ -52,16 +56,15 @@ fn wrong_name(
 fn wrong_size(file: &[u8], start: usize, text: &[u8], names: &[u8], classes: &[u8]) -> Why
     requires { start ≤ length file.now }
 {
-    let found = limit_passed(text, names, classes);
-    match found {
-        Passed::At(message, at) => at_word(message, COLUMN, in_file(file, start, at), 0),
-        Passed::Nothing => alone(19),
+    match limit_passed(text, names, classes) {
+        Some((limit, at)) => at_word(limit as u8, Said::Column, in_file(file, start, at), 0),
+        None => alone(19),
     }
 }
 
-// Why a class text is refused, by the refusal's number.
+// Why a class text is refused.
 pub fn wrong_text(
-    number: u64,
+    refusal: Refusal,
     file: &[u8],
     start: usize,
     names: &[u8],
@@ -70,11 +73,10 @@ pub fn wrong_text(
 ) -> Why
     requires { start ≤ length file.now }
 {
-    if number == 17 {
-        return wrong_name(file, start, &file[start..], names, commands, classes);
+    let text = &file[start..];
+    match refusal {
+        Refusal::Naming => wrong_name(file, start, text, names, commands, classes),
+        Refusal::Limit => wrong_size(file, start, text, names, classes),
+        _ => alone(20),
     }
-    if number == 18 {
-        return wrong_size(file, start, &file[start..], names, classes);
-    }
-    alone(20)
 }

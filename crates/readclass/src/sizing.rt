@@ -6,35 +6,26 @@ use limits::all_shallow;
 use prefixed::walks::order_guards;
 use words::next_word;
 
-// What there is a limit for, by the number of its message.
-const STATES: u8 = 0;
-
-const WHENS: u8 = 1;
-
-const ACTIONS: u8 = 2;
-
-const STATEMENTS: u8 = 3;
-
-const GUARDS: u8 = 4;
-
-const IFS: u8 = 5;
-
-const OPERATORS: u8 = 6;
-
-// A limit that is passed, and where the word stands that passes it; or that none is.
+// What there is a limit for: the words that are counted, and the operators on one path of a guard. In the order of the messages.
 #[derive(Clone, Copy)]
-pub enum Passed {
-    At(u8, usize),
-    Nothing,
+pub enum Limit {
+    States,
+    Whens,
+    Actions,
+    Statements,
+    Guards,
+    Ifs,
+    Operators,
 }
 
 // How many there may be.
-fn most(limit: u8) -> u64 {
+fn most(limit: Limit) -> u64 {
     match limit {
-        0 => 32,
-        1 | 2 => 256,
-        3 | 4 => 1024,
-        _ => 8,
+        Limit::States => 32,
+        Limit::Whens | Limit::Actions => 256,
+        Limit::Statements | Limit::Guards => 1024,
+        Limit::Ifs => 8,
+        Limit::Operators => 16,
     }
 }
 
@@ -47,19 +38,20 @@ fn more(left: u64) -> u64 {
 }
 
 // A word of that kind is one more.
-fn is_one(limit: u8, kind: u8, acting: bool) -> bool {
+fn is_one(limit: Limit, kind: u8, acting: bool) -> bool {
     match limit {
-        0 => kind == STATE,
-        1 => kind == WHEN,
-        2 => kind == ACTION,
-        3 => acting & ((kind == MOVE_TO) | ((kind == DO) | (kind == IF))),
-        4 => (AND <= kind) & (kind <= NOT_IN),
-        _ => kind == IF,
+        Limit::States => kind == STATE,
+        Limit::Whens => kind == WHEN,
+        Limit::Actions => kind == ACTION,
+        Limit::Statements => acting && (kind == MOVE_TO || kind == DO || kind == IF),
+        Limit::Guards => AND <= kind && kind <= NOT_IN,
+        Limit::Ifs => kind == IF,
+        Limit::Operators => false,
     }
 }
 
-// Where there is one too many; an if that ends gives its place back.
-fn passes(text: &[u8], limit: u8) -> Passed {
+// Where there is one too many, if there is; an if that ends gives its place back.
+fn passes(text: &[u8], limit: Limit) -> Option<usize> {
     let mut left = most(limit);
     let mut acting = false;
     let mut at = 0;
@@ -68,15 +60,15 @@ fn passes(text: &[u8], limit: u8) -> Passed {
         let kind = word.kind;
         at = word.end;
         if kind == END {
-            return Passed::Nothing;
+            return None;
         }
-        acting = (kind != STATE) & ((kind == ACTION) | acting);
+        acting = kind != STATE && (kind == ACTION || acting);
         if is_one(limit, kind, acting) {
             if left == 0 {
-                return Passed::At(limit, word.start);
+                return Some(word.start);
             }
-            left = left - 1;
-        } else if (limit == IFS) & (kind == ENDIF) {
+            left -= 1;
+        } else if matches!(limit, Limit::Ifs) && kind == ENDIF {
             left = more(left);
         }
     }
@@ -94,7 +86,7 @@ fn guard_stop(text: &[u8], from: usize) -> usize
         if kind == END {
             return at;
         }
-        if ((MOVE_TO <= kind) & (kind <= STAY)) | (kind == THEN) {
+        if (MOVE_TO <= kind && kind <= STAY) || kind == THEN {
             return at;
         }
         at = word.end;
@@ -105,7 +97,7 @@ fn guard_stop(text: &[u8], from: usize) -> usize
 fn is_deep(text: &[u8], kind: u8, start: usize, end: usize, names: &[u8], classes: &[u8]) -> bool
     requires { (start ≤ end) × (end ≤ length text.now) }
 {
-    if (kind != WHEN) & (kind != IF) {
+    if kind != WHEN && kind != IF {
         return false;
     }
     let stop = guard_stop(text, end);
@@ -115,8 +107,8 @@ fn is_deep(text: &[u8], kind: u8, start: usize, end: usize, names: &[u8], classe
     !all_shallow(&records[..size])
 }
 
-// Where a clause or an if begins whose guard has too many operators on one path.
-fn too_deep(text: &[u8], names: &[u8], classes: &[u8]) -> Passed {
+// Where a clause or an if begins whose guard has too many operators on one path, if one does.
+fn too_deep(text: &[u8], names: &[u8], classes: &[u8]) -> Option<usize> {
     let mut at = 0;
     loop {
         let word = next_word(text, at);
@@ -124,23 +116,29 @@ fn too_deep(text: &[u8], names: &[u8], classes: &[u8]) -> Passed {
         let start = word.start;
         at = word.end;
         if kind == END {
-            return Passed::Nothing;
+            return None;
         }
         if is_deep(text, kind, start, at, names, classes) {
-            return Passed::At(OPERATORS, start);
+            return Some(start);
         }
     }
 }
 
-// The first limit that is passed.
-pub fn limit_passed(text: &[u8], names: &[u8], classes: &[u8]) -> Passed {
-    let mut limit = 0;
-    while limit < OPERATORS {
-        let one = passes(text, limit);
-        if let Passed::At(_, _) = one {
-            return one;
+// The first limit that is passed, and where the word stands that passes it.
+pub fn limit_passed(text: &[u8], names: &[u8], classes: &[u8]) -> Option<(Limit, usize)> {
+    let counted = [
+        Limit::States,
+        Limit::Whens,
+        Limit::Actions,
+        Limit::Statements,
+        Limit::Guards,
+        Limit::Ifs,
+    ];
+    for limit in counted {
+        if let Some(at) = passes(text, limit) {
+            return Some((limit, at));
         }
-        limit = limit + 1;
     }
-    too_deep(text, names, classes)
+    let at = too_deep(text, names, classes)?;
+    Some((Limit::Operators, at))
 }

@@ -2,8 +2,8 @@ use Prim.Native.Nat.{◌-◌}
 use lib.ListN.{length}
 use Rattle.readclass.proofs.sizing.passes.Given as goal
 
-abbrev pub invariant-loop-word : goal.invariant-loop-word
-invariant-loop-word l = Unit {0}
+abbrev pub invariant-loop-limit : goal.invariant-loop-limit
+invariant-loop-limit l = Unit {0}
 
-abbrev pub decreases-loop-word : goal.decreases-loop-word
-decreases-loop-word l = length l.text - l.at
+abbrev pub decreases-loop-limit : goal.decreases-loop-limit
+decreases-loop-limit l = length l.text - l.at
