@@ -11,6 +11,7 @@ ghost use Rattle.own.specs.Held.{Kinds, all_names, Holds};
 ghost use Rattle.known.specs.Roles.{Known, action_for, own_for, listed_for, word_known, actions_differ, Entered, words_known};
 
 use differing::all_differ;
+use kinds::{ACTION, ALL, ANY, COMMA, DO, END, IN, LEFT, MOVE_TO, NAME, NOT_IN, STATE, STAY};
 use lists::number_in;
 use own::{Holding, empty_table, hold, number_of};
 use words::next_word;
@@ -27,13 +28,13 @@ fn is_listed(list: &[u8], size: usize, name: &[u8]) -> bool
 fn listed_for(before: u8, name: &[u8], names: &[u8], commands: &[u8], classes: &[u8]) -> bool
     ensures { result ≡ listed_for (lent names.now commands.now classes.now) before name.now }
 {
-    if (before == 3) | (before == 9) {
+    if (before == ACTION) | (before == DO) {
         return is_listed(commands, 32, name);
     }
-    if (before == 5) | (before == 6) {
+    if (before == ANY) | (before == ALL) {
         return is_listed(classes, 36, name);
     }
-    if ((before == 18) | (before == 19)) | ((before == 23) | (before == 25)) {
+    if ((before == IN) | (before == NOT_IN)) | ((before == LEFT) | (before == COMMA)) {
         return is_listed(names, 32, name);
     }
     true
@@ -60,8 +61,8 @@ fn own_for(text: &[u8], before: u8, name: &[u8], own: &[usize], held: Holding) -
     requires { Holds text.now own.now held.count held.rest }
     ensures { result ≡ own_for (all_names text.now own.now held.count 2 26 held.rest) before name.now }
 {
-    if (before == 8) | (before == 10) {
-        return is_among(text, own, held.count, held.rest, 2, 26, name);
+    if (before == MOVE_TO) | (before == STAY) {
+        return is_among(text, own, held.count, held.rest, STATE, END, name);
     }
     true
 }
@@ -79,8 +80,8 @@ fn action_for(text: &[u8], before: u8, name: &[u8], actions: &[usize], scope: Sc
     requires { Holds text.now actions.now scope.count scope.rest }
     ensures { result ≡ action_for scope.referring (all_names text.now actions.now scope.count 3 2 scope.rest) before name.now }
 {
-    if (before == 9) & scope.referring {
-        return is_among(text, actions, scope.count, scope.rest, 3, 2, name);
+    if (before == DO) & scope.referring {
+        return is_among(text, actions, scope.count, scope.rest, ACTION, STATE, name);
     }
     true
 }
@@ -102,7 +103,7 @@ fn word_known(
     requires { Holds text.now actions.now scope.count scope.rest × Holds text.now own.now held.count held.rest }
     ensures { result ≡ word_known (lent names.now commands.now classes.now) (all_names text.now own.now held.count 2 26 held.rest) scope.referring (all_names text.now actions.now scope.count 3 2 scope.rest) before kind name.now }
 {
-    if kind != 0 {
+    if kind != NAME {
         return true;
     }
     if !action_for(text, before, name, actions, scope) {
@@ -118,8 +119,8 @@ fn word_known(
 fn actions_differ(text: &[u8], kind: u8, end: usize) -> bool
     ensures { result ≡ actions_differ kind (names_from text.now 3 2 end) }
 {
-    if kind == 2 {
-        return all_differ(text, end, 3, 2);
+    if kind == STATE {
+        return all_differ(text, end, ACTION, STATE);
     }
     true
 }
@@ -129,19 +130,18 @@ fn entered(text: &[u8], kind: u8, end: usize, scope: Scope, actions: &mut [usize
     requires { Holds text.now actions.old scope.count scope.rest }
     ensures { Entered text.now kind end scope.referring (all_names text.now actions.old scope.count 3 2 scope.rest) result.referring actions.new result.count result.rest }
 {
-    if kind == 2 {
-        let holding = hold(text, end, 3, 2, actions);
+    if kind == STATE {
+        let holding = hold(text, end, ACTION, STATE, actions);
         return Scope {
             referring: true,
             count: holding.count,
             rest: holding.rest,
         };
     }
-    if kind == 3 {
+    if kind == ACTION {
         return Scope {
             referring: false,
-            count: scope.count,
-            rest: scope.rest,
+            ..scope
         };
     }
     scope
@@ -165,6 +165,7 @@ fn words_known(
         count: 0,
         rest: text.len(),
     };
+    // A number and no Option: the definition words_known takes the kind of the word before as a number, and 27 is no word's kind.
     let mut before = 27;
     let mut at = 0;
     loop {
@@ -172,7 +173,7 @@ fn words_known(
         let kind = word.kind;
         let start = word.start;
         let end = word.end;
-        if kind == 26 {
+        if kind == END {
             return true;
         }
         if !word_known(
@@ -211,10 +212,10 @@ fn own_table() -> [usize; 65536]
 pub fn text_known(text: &[u8], names: &[u8], commands: &[u8], classes: &[u8]) -> bool
     ensures { Known text.now (lent names.now commands.now classes.now) result }
 {
-    if !all_differ(text, 0, 2, 26) {
+    if !all_differ(text, 0, STATE, END) {
         return false;
     }
     let mut own = own_table();
-    let held = hold(text, 0, 2, 26, &mut own);
+    let held = hold(text, 0, STATE, END, &mut own);
     words_known(text, &own, held, names, commands, classes)
 }

@@ -6,14 +6,14 @@ use mathlib.Core.Path.{ap}
 use mathlib.Core.Bool.{not}
 use Rattle.known.proofs.word_known.Goals as goal
 
-pub returns-then-kind-ne0 : goal.returns-then-kind-ne0
-returns-then-kind-ne0 c = no_name _ _ _ _ _ _ _ c.if-kind-ne0.true
+pub returns-then-kind-ne-NAME : goal.returns-then-kind-ne-NAME
+returns-then-kind-ne-NAME c = no_name _ _ _ _ _ _ _ c.if-kind-ne-NAME.true
 
 pub returns-then-not-action_for : goal.returns-then-not-action_for
-returns-then-not-action_for c = no_such_action _ _ _ _ _ _ _ c.if-kind-ne0.false (not_passed c.action_for.ensures (ap not c.if-not-action_for.true))
+returns-then-not-action_for c = no_such_action _ _ _ _ _ _ _ c.if-kind-ne-NAME.false (not_passed c.action_for.ensures (ap not c.if-not-action_for.true))
 
 pub returns-then-not-own_for : goal.returns-then-not-own_for
-returns-then-not-own_for c = no_such_state _ _ _ _ _ _ _ c.if-kind-ne0.false (passed c.action_for.ensures (ap not c.if-not-action_for.false)) (not_passed c.own_for.ensures (ap not c.if-not-own_for.true))
+returns-then-not-own_for c = no_such_state _ _ _ _ _ _ _ c.if-kind-ne-NAME.false (passed c.action_for.ensures (ap not c.if-not-action_for.false)) (not_passed c.own_for.ensures (ap not c.if-not-own_for.true))
 
 pub returns : goal.returns
-returns c = name_told _ _ _ _ _ _ _ c.if-kind-ne0.false (passed c.action_for.ensures (ap not c.if-not-action_for.false)) (passed c.own_for.ensures (ap not c.if-not-own_for.false)) _ c.listed_for.ensures
+returns c = name_told _ _ _ _ _ _ _ c.if-kind-ne-NAME.false (passed c.action_for.ensures (ap not c.if-not-action_for.false)) (passed c.own_for.ensures (ap not c.if-not-own_for.false)) _ c.listed_for.ensures

@@ -8,30 +8,30 @@ use Rattle.known.proofs.words_known.Goals as goal
 pub loop-held-init : goal.loop-held-init
 loop-held-init c = (c.empty_table-actions.ensures, going_start _ _ _ _)
 
-pub returns-then-kind-eq26 : goal.returns-then-kind-eq26
-returns-then-kind-eq26 c = sym (c.loop-held.invariant.1.told ∙ known_end _ _ _ _ _ _ _ _ _ _ c.next_word-word.ensures c.if-kind-eq26.true)
+pub returns-then-kind-eq-END : goal.returns-then-kind-eq-END
+returns-then-kind-eq-END c = sym (c.loop-held.invariant.1.told ∙ known_end _ _ _ _ _ _ _ _ _ _ c.next_word-word.ensures c.if-kind-eq-END.true)
 
 pub slice_bounds-word_known-count : goal.slice_bounds-word_known-count
-slice_bounds-word_known-count c = let h = c.next_word-word.ensures.moves c.if-kind-eq26.false in search rules
+slice_bounds-word_known-count c = let h = c.next_word-word.ensures.moves c.if-kind-eq-END.false in search rules
 
 pub slice_bounds-word_known-start : goal.slice_bounds-word_known-start
-slice_bounds-word_known-start c = let h = c.next_word-word.ensures.moves c.if-kind-eq26.false in search rules
+slice_bounds-word_known-start c = let h = c.next_word-word.ensures.moves c.if-kind-eq-END.false in search rules
 
 pub slice_bounds-word_known-end : goal.slice_bounds-word_known-end
-slice_bounds-word_known-end c = let h = c.next_word-word.ensures.inside c.if-kind-eq26.false in search rules
+slice_bounds-word_known-end c = let h = c.next_word-word.ensures.inside c.if-kind-eq-END.false in search rules
 
 pub returns-then-not-word_known : goal.returns-then-not-word_known
 returns-then-not-word_known c =
     sym (c.loop-held.invariant.1.told
-    ∙ known_not _ _ _ _ _ _ _ _ _ _ c.next_word-word.ensures c.if-kind-eq26.false _ c.word_known.ensures (c.if-not-word_known.true))
+    ∙ known_not _ _ _ _ _ _ _ _ _ _ c.next_word-word.ensures c.if-kind-eq-END.false _ c.word_known.ensures (c.if-not-word_known.true))
 
 pub returns-then-not-actions_differ : goal.returns-then-not-actions_differ
 returns-then-not-actions_differ c =
     sym (c.loop-held.invariant.1.told
-    ∙ known_twice _ _ _ _ _ _ _ _ _ _ c.next_word-word.ensures c.if-kind-eq26.false _ c.word_known.ensures (c.if-not-word_known.false) _ c.actions_differ.ensures (c.if-not-actions_differ.true))
+    ∙ known_twice _ _ _ _ _ _ _ _ _ _ c.next_word-word.ensures c.if-kind-eq-END.false _ c.word_known.ensures (c.if-not-word_known.false) _ c.actions_differ.ensures (c.if-not-actions_differ.true))
 
 pub loop-held-smaller : goal.loop-held-smaller
-loop-held-smaller c = known_less _ _ _ _ _ c.next_word-word.ensures c.if-kind-eq26.false
+loop-held-smaller c = known_less _ _ _ _ _ c.next_word-word.ensures c.if-kind-eq-END.false
 
 pub loop-held-preserved : goal.loop-held-preserved
 loop-held-preserved c =
@@ -41,6 +41,6 @@ loop-held-preserved c =
         holds = e.holds;
         told =
             c.loop-held.invariant.1.told
-            ∙ known_on _ _ _ _ _ _ _ _ _ _ c.next_word-word.ensures c.if-kind-eq26.false _ c.word_known.ensures (c.if-not-word_known.false) _ c.actions_differ.ensures (c.if-not-actions_differ.false) _ _ _ _ e;
+            ∙ known_on _ _ _ _ _ _ _ _ _ _ c.next_word-word.ensures c.if-kind-eq-END.false _ c.word_known.ensures (c.if-not-word_known.false) _ c.actions_differ.ensures (c.if-not-actions_differ.false) _ _ _ _ e;
       },
     )
