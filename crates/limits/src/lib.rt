@@ -1,7 +1,7 @@
 // The limits of a class, tested in code.
 #![tactic(auto)]
 
-ghost use Rattle.std.specs.Prelude.{◌≡◌, ◌<◌};
+ghost use Rattle.std.specs.Prelude.{◌≡◌};
 ghost use Rattle.lists.specs.Lent.{lent};
 ghost use Rattle.limits.specs.Shallow.{shallow};
 ghost use Rattle.limits.specs.Counts.{counts_right, SetsTold, FewTold};
@@ -17,8 +17,7 @@ pub fn all_shallow(guards: &[u8]) -> bool
     let count = guards.len() / 8;
     let mut at = 0;
     while at < count {
-        let end = guard_end(guards, at, 16);
-        let Some(next) = end else {
+        let Some(next) = guard_end(guards, at, 16) else {
             return false;
         };
         at = next;
@@ -37,20 +36,13 @@ fn counts_right(classes: usize, n: Sizes) -> bool
                     & ((n.guards <= 1024) & ((n.actions <= 256) & (n.statements <= 1024))))))
 }
 
-// A name set is a number of 32 bits.
-fn whole(set: u32) -> u32
-    ensures { (result ≡ set) × (result < 4294967296) }
-{
-    set
-}
-
 // No child class has an empty name set.
 fn sets_right(classes: &[u8]) -> bool
     ensures { SetsTold classes.now result }
 {
     let n = record_count(classes, 36);
     for i in 0..n {
-        if whole(class_set(classes, i)) == 0 {
+        if class_set(classes, i) == 0 {
             return false;
         }
     }

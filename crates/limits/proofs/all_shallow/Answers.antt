@@ -10,20 +10,20 @@ pub returns-in_default : goal.returns-in_default
 returns-in_default c =
     let i = c.loop-at.invariant in
     let t = c.loop-at-test.true in
-    sym (reading_broken _ _ i.1 (omega (arith, i.0)) (sym c.guard_end-end.ensures ∙ c.in_default.is))
+    sym (reading_broken _ _ i.1 (omega (arith, i.0)) (sym c.guard_end.ensures ∙ c.in_default.is))
 
 pub loop-at-smaller : goal.loop-at-smaller
 loop-at-smaller c =
     let i = c.loop-at.invariant in
     let t = c.loop-at-test.true in
-    let l = (reading_on _ _ _ i.1 (omega (arith, i.0)) (sym c.guard_end-end.ensures ∙ c.in-Some.is)).0 in
+    let l = (reading_on _ _ _ i.1 (omega (arith, i.0)) (sym c.guard_end.ensures ∙ c.in-Some.is)).0 in
     omega (arith, l, t)
 
 pub loop-at-preserved : goal.loop-at-preserved
 loop-at-preserved c =
     let i = c.loop-at.invariant in
     let t = c.loop-at-test.true in
-    (i.0, (reading_on _ _ _ i.1 (omega (arith, i.0)) (sym c.guard_end-end.ensures ∙ c.in-Some.is)).1)
+    (i.0, (reading_on _ _ _ i.1 (omega (arith, i.0)) (sym c.guard_end.ensures ∙ c.in-Some.is)).1)
 
 pub returns : goal.returns
 returns c =
