@@ -20,13 +20,6 @@ fn put_entry(out: &mut [u8], at: usize, start: usize, size: usize) -> usize
     put_two(out, next, size)
 }
 
-// A number of two bytes as one of eight.
-fn wide(n: u16) -> usize
-    ensures { (result ≡ n) × (result < 65536) }
-{
-    n as usize
-}
-
 // The contents: the bodies follow one another from byte 24 on.
 pub fn write_contents(out: &mut [u8], sizes: [u16; 6]) -> usize
     ensures { Puts (contents_bytes 24 sizes) out.old 0 out.new result }
@@ -34,7 +27,7 @@ pub fn write_contents(out: &mut [u8], sizes: [u16; 6]) -> usize
     let mut end: usize = 0;
     let mut start: usize = 24;
     for k in sizes.iter() {
-        let size = wide(*k);
+        let size = *k as usize;
         end = put_entry(out, end, start, size);
         start += size;
     }
