@@ -1,8 +1,8 @@
 -- Laws about the places of the bodies: the parts that they mark off are the bodies.
 -- Assumes nothing.
-use Prim.Native.Nat.{ℕ, ◌+◌, ◌-◌, ◌<◌, ◌≤◌}
+use Prim.Native.Nat.{ℕ, ◌+◌, ◌-◌, ◌<◌}
 use native.Mathlib.Omega.{arith}
-use mathlib.Core.Path.{◌≡◌, sym, ap, subst, ◌∙◌}
+use mathlib.Core.Path.{◌≡◌, refl, sym, ap, subst, ◌∙◌}
 use mathlib.Core.Bool.{true}
 use mathlib.Core.List.{List, [], ◌∷◌}
 use lib.ListN.{length, take, drop}
@@ -14,7 +14,7 @@ use Rattle.model.proofs.RefusalLaws.{not_zero}
 use Rattle.sheet.specs.Contents.{start, size, body, length_right, contents_right, Bodies, bodies}
 use Rattle.sheet.specs.Rules.{refusal_in, refusal}
 use Rattle.sheet.specs.declared.judging.Places.{Places}
-use Rattle.sheet.specs.Verdict.{places_of, place_numbers, refused_number, outcome, verdict, together, ShortBodies}
+use Rattle.sheet.specs.Verdict.{places_of, place_numbers, refused_number, outcome, verdict, together, ShortBodies, Marked}
 use Rattle.sheet.proofs.Contents.{next_start, last_end, counted}
 
 -- the parts of a byte string that places mark off
@@ -26,15 +26,6 @@ cut b p =
     (take (p.actions - p.guards) (drop p.guards b))
     (take (p.statements - p.actions) (drop p.actions b))
     (take (length b - p.statements) (drop p.statements b))
-
--- places in rising order, inside the byte string
-pub record Rising (b : List ℕ) (p : Places) : Type 0 where
-  pub states : p.classes ≤ p.states
-  pub whens : p.states ≤ p.whens
-  pub guards : p.whens ≤ p.guards
-  pub actions : p.guards ≤ p.actions
-  pub statements : p.actions ≤ p.statements
-  pub end : p.statements ≤ length b
 
 module _ (b : List ℕ) (h : contents_right b ≡ true) where
   part_body : (k : ℕ) → k < 5 → take (start b (k + 1) - start b k) (drop (start b k) b) ≡ body b k
@@ -70,22 +61,25 @@ module _ (b : List ℕ) (h : contents_right b ≡ true) where
         actions_short = omega (arith, (counted b h).actions_whole, (counted b h).actions_most);
       }
 
-  rising_places : Rising b (places_of b)
-  rising_places =
-      record {
-        states = omega (arith, next_start b h 0 (omega arith));
-        whens = omega (arith, next_start b h 1 (omega arith));
-        guards = omega (arith, next_start b h 2 (omega arith));
-        actions = omega (arith, next_start b h 3 (omega arith));
-        statements = omega (arith, next_start b h 4 (omega arith));
-        end = omega (arith, last_end b h);
-      }
+  -- the places that the contents name, and the parts that they mark off
+  pub marked : length_right b ≡ true → {p : Places} → p ≡ places_of b → Marked b p
+  marked l {p} e = subst (λ (p : Places). Marked b p) (sym e) at
+    where
+      at : Marked b (places_of b)
+      at =
+          record {
+            length_fits = l;
+            contents_fit = h;
+            places = refl;
+            states = omega (arith, next_start b h 0 (omega arith));
+            whens = omega (arith, next_start b h 1 (omega arith));
+            guards = omega (arith, next_start b h 2 (omega arith));
+            actions = omega (arith, next_start b h 3 (omega arith));
+            statements = omega (arith, next_start b h 4 (omega arith));
+            end = omega (arith, last_end b h);
+          }
 
-  -- the same at the places that were read
   module _ {p : Places} (e : p ≡ places_of b) where
-    pub rising : Rising b p
-    rising = subst (λ (p : Places). Rising b p) (sym e) rising_places
-
     pub cut_right : cut b p ≡ bodies b
     cut_right = ap (cut b) e ∙ cut_bodies
 

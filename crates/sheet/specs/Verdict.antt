@@ -1,10 +1,10 @@
 -- What the judge answers: the refusal, or acceptance with the places of the six bodies.
 -- Assumes nothing.
-use Rattle.std.specs.Prelude.{ℕ, ◌≤◌, ◌≡◌, List, [], ◌∷◌, eqb, length, Result, Ok, Err}
+use Rattle.std.specs.Prelude.{ℕ, ◌≤◌, ◌≡◌, List, [], ◌∷◌, true, eqb, length, Result, Ok, Err}
 use Rattle.model.specs.Words.{choose}
 use Rattle.model.specs.Refusals.{number_of}
 use Rattle.model.specs.declared.Refusal.{Refusal}
-use Rattle.sheet.specs.Contents.{Bodies, start}
+use Rattle.sheet.specs.Contents.{Bodies, start, length_right, contents_right}
 use Rattle.sheet.specs.Rules.{refusal, Accepted as IsAccepted}
 use Rattle.sheet.specs.declared.judging.Places.{Places}
 
@@ -47,6 +47,23 @@ pub record ShortBodies (classes states whens actions : List ℕ) : Type 0 where
   pub states_short : length states ≤ 1024
   pub whens_short : length whens ≤ 1024
   pub actions_short : length actions ≤ 1024
+
+-- these are the places of six bodies that follow one another in a byte string that keeps the rules 1 and 2
+pub record Marked (b : List ℕ) (p : Places) : Type 0 where
+  pub length_fits : length_right b ≡ true
+  pub contents_fit : contents_right b ≡ true
+  pub places : p ≡ places_of b
+  pub states : p.classes ≤ p.states
+  pub whens : p.states ≤ p.whens
+  pub guards : p.whens ≤ p.guards
+  pub actions : p.guards ≤ p.actions
+  pub statements : p.actions ≤ p.statements
+  pub end : p.statements ≤ length b
+
+-- the places of such a byte string, or the verdict on one that breaks rule 1 or 2
+abbrev pub Found : List ℕ → Verdict → Type 0
+Found b (Ok p) = Marked b p
+Found b (Err x) = number_of x ∷ [] ≡ verdict b
 
 -- the sheet is accepted, and these are the places of its bodies
 pub record Stands (b : List ℕ) (p : Places) : Type 0 where

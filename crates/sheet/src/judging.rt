@@ -2,7 +2,7 @@
 ghost use Rattle.std.specs.Prelude.{◌≡◌, ◌+◌, ◌*◌, ◌<◌};
 ghost use Rattle.sheet.specs.Contents.{start, size, count_right, bodies_follow, counts_in_range};
 ghost use Rattle.sheet.specs.Rules.{refusal_in};
-ghost use Rattle.sheet.specs.Verdict.{places_of, verdict_numbers, refused_number, verdict, together, ShortBodies};
+ghost use Rattle.sheet.specs.Verdict.{places_of, verdict_numbers, refused_number, verdict, together, ShortBodies, Found};
 
 use bodies::checks::{
     actions_ok, classes_ok, counts_ok, guards_ok, records_ok, statements_ok, targets_ok,
@@ -122,9 +122,9 @@ fn judge_bodies(
     Ok(())
 }
 
-// The verdict of a byte string offered as a sheet, the places of its bodies or its refusal: each body is handed on as a part that starts in the sheet's middle.
-pub fn judge(sheet: &[u8]) -> Result<Places, Refusal>
-    ensures { verdict_numbers result ≡ verdict sheet.now }
+// The places of the bodies of a byte string that keeps the rules 1 and 2; they rise.
+fn find_places(sheet: &[u8]) -> Result<Places, Refusal>
+    ensures { Found sheet.now result }
 {
     let end = sheet.len();
     if (end < 24) | (18616 < end) {
@@ -133,20 +133,22 @@ pub fn judge(sheet: &[u8]) -> Result<Places, Refusal>
     if !(bodies_follow(sheet) & counts_in_range(sheet)) {
         return Err(Refusal::Contents);
     }
-    let p = read_places(sheet);
-    let classes = p.classes;
-    let states = p.states;
-    let whens = p.whens;
-    let guards = p.guards;
-    let actions = p.actions;
-    let statements = p.statements;
+    Ok(read_places(sheet))
+}
+
+// The verdict of a byte string offered as a sheet, the places of its bodies or its refusal: each body is handed on as a part that starts
+// in the sheet's middle.
+pub fn judge(sheet: &[u8]) -> Result<Places, Refusal>
+    ensures { verdict_numbers result ≡ verdict sheet.now }
+{
+    let p = find_places(sheet)?;
     judge_bodies(
-        &sheet[classes..states],
-        &sheet[states..whens],
-        &sheet[whens..guards],
-        &sheet[guards..actions],
-        &sheet[actions..statements],
-        &sheet[statements..],
+        &sheet[p.classes..p.states],
+        &sheet[p.states..p.whens],
+        &sheet[p.whens..p.guards],
+        &sheet[p.guards..p.actions],
+        &sheet[p.actions..p.statements],
+        &sheet[p.statements..],
     )?;
     Ok(p)
 }
