@@ -54,7 +54,10 @@ fn try_blocks(
     let mut next = 0;
     while next < all {
         match block(plan, clauses, statements, there, next, &mut words) {
-            Err(w) => return Err(next + lowest_lane(w)),
+            Err(w) => {
+                let k = next + lowest_lane(w);
+                return Err(k);
+            }
             Ok(m) => longest = longest.max(m),
         }
         next += 64;

@@ -13,8 +13,8 @@ loop-next-init c = search_start _ _ _ _ _ _ _ c.requires.1 refl refl
 pub block-requires : goal.block-requires
 block-requires c = lent _ _ _ _ _ _ _ _ _ c.loop-next.invariant c.requires.0
 
-pub overflow_add-result : goal.overflow_add-result
-overflow_add-result c = omega (arith, c.loop-next.invariant.small, lowest_most _ _ c.lowest_lane.ensures)
+pub overflow_add-k : goal.overflow_add-k
+overflow_add-k c = omega (arith, c.loop-next.invariant.small, lowest_most _ _ c.lowest_lane.ensures)
 
 pub returns-in-Err : goal.returns-in-Err
 returns-in-Err c = search_loop _ _ _ _ _ _ _ _ _ c.loop-next.invariant _ c.block.ensures _ _ c.in-Err.is c.lowest_lane.ensures
