@@ -51,16 +51,14 @@ fn try_blocks(
     let all: u32 = 1 << n;
     let mut words = [0u64; 1024];
     let mut longest = 0;
-    let mut next = 0;
-    while next < all {
-        match block(plan, clauses, statements, there, next, &mut words) {
+    for base in (0..all).step_by(64) {
+        match block(plan, clauses, statements, there, base, &mut words) {
             Err(w) => {
-                let k = next + lowest_lane(w);
+                let k = base + lowest_lane(w);
                 return Err(k);
             }
             Ok(m) => longest = longest.max(m),
         }
-        next += 64;
     }
     Ok(longest)
 }

@@ -1,6 +1,6 @@
 -- `first_clauses`: the firsts of the states before q.
 -- Assumes nothing.
-use Prim.Native.Nat.{◌+◌, ◌-◌, ◌≤◌}
+use Prim.Native.Nat.{◌≤◌}
 use Rattle.blocks.proofs.ClauseLaws.{FirstsTo}
 use Rattle.blocks.proofs.clauses.first_clauses.Given as goal
 

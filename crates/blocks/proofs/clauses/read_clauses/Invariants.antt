@@ -1,7 +1,7 @@
 -- `read_clauses`: the clauses of the states before q are read.
 -- Assumes nothing.
 -- what `read_clauses` was called with
-use Prim.Native.Nat.{◌-◌, ◌≤◌}
+use Prim.Native.Nat.{◌≤◌}
 use Rattle.sheet.specs.Contents.{body}
 use Rattle.blocks.specs.ClauseTables.{WhensOf}
 use Rattle.blocks.proofs.clauses.read_clauses.Given as goal

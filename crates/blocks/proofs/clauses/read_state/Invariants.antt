@@ -1,6 +1,6 @@
 -- `read_state`: the clauses before w are read.
 -- Assumes nothing.
-use Prim.Native.Nat.{◌-◌, ◌≤◌}
+use Prim.Native.Nat.{◌≤◌}
 use Rattle.blocks.specs.ClauseTables.{ReadState}
 use Rattle.blocks.proofs.clauses.read_state.Given as goal
 

@@ -1,6 +1,6 @@
 -- `statement_starts`: the starts of the action clauses before a, and where the last of them ends.
 -- Assumes nothing.
-use Prim.Native.Nat.{◌-◌, ◌≤◌}
+use Prim.Native.Nat.{◌≤◌}
 use Rattle.blocks.proofs.ClauseLaws.{FromsTo}
 use Rattle.blocks.proofs.clauses.statement_starts.Given as goal
 

@@ -5,8 +5,8 @@ use Prim.Native.Nat.{◌-◌}
 use Rattle.blocks.proofs.SearchLaws.{Searching}
 use Rattle.blocks.proofs.search.try_blocks.Given as goal
 
-abbrev pub invariant-loop-next : goal.invariant-loop-next
-invariant-loop-next l = Searching l.plan l.clauses l.statements l.there l.n l.all l.words l.longest l.next
+abbrev pub invariant-loop-base : goal.invariant-loop-base
+invariant-loop-base l = Searching l.plan l.clauses l.statements l.there l.n l.all l.words l.longest l.base
 
-abbrev pub decreases-loop-next : goal.decreases-loop-next
-decreases-loop-next l = l.all - l.next
+abbrev pub decreases-loop-base : goal.decreases-loop-base
+decreases-loop-base l = l.all - l.base
