@@ -8,6 +8,7 @@ use mathlib.Core.List.{List}
 use lib.Dec.{ltb}
 use lib.ListN.{length}
 use borrow.Author.Tests.{lt-ltb, le-ltb, ltb-true}
+use Rattle.std.specs.Prelude.{Result, Ok, Err}
 use Rattle.model.specs.Words.{choose}
 use Rattle.model.specs.Tree.{Class}
 use Rattle.model.specs.Node.{own_states}
@@ -19,7 +20,7 @@ use Rattle.model.proofs.RefusalLaws.{numbered_from_1}
 use Rattle.records.specs.Bytes.{in_fours}
 use Rattle.sheet.specs.Contents.{bodies, body}
 use Rattle.sheet.specs.Reading.{class_of}
-use Rattle.sheet.specs.Verdict.{Stands}
+use Rattle.sheet.specs.Verdict.{refused_number, Stands}
 use Rattle.sheet.specs.declared.judging.Places.{Places}
 use Rattle.sheet.proofs.Reading.{own_states_in}
 use Rattle.accepted.proofs.ReaderLaws.{classes_few}
@@ -28,9 +29,7 @@ use Rattle.children.specs.Lists.{pairs_right}
 use Rattle.children.specs.NameSets.{Shows, Crewed}
 use Rattle.children.proofs.ListLaws.{pairs_list, list_crewed}
 use Rattle.bargewicker.specs.Questions.{placed}
-use Rattle.bargewicker.specs.Placing.{placed_refusal, placing_number}
-use Rattle.bargewicker.specs.declared.Placing.{Placing}
-use Rattle.bargewicker.specs.declared.Placing.TheVariants.{Fits, Refused}
+use Rattle.bargewicker.specs.Placing.{placed_refusal}
 use Rattle.bargewicker.proofs.QuestionLaws.{not_placed, is_placed}
 
 module _ (b : List ℕ) (p : Places) (s : Stands b p) where
@@ -80,13 +79,13 @@ placed_state c l q e = go (list_right c l) (ltb q (own_states c)) refl e
     go false u f e = absurd (omega arith)
 
 -- what the check of both answered, for every question that begins with it
-module _ (b : List ℕ) (p : Places) (s : Stands b p) (l : List ℕ) (q : ℕ) (r : Placing) (e : placing_number r ≡ placed_refusal (class_of b) l q) where
-  pub not_fitting : {A : Type 0} (x : Refusal) → r ≡ Refused x → (rest : Class → Reply A) → placed b l q rest ≡ refuse (number_of x)
-  not_fitting x f rest = not_placed b s.accepted l q rest (number_of x) (sym (ap placing_number f) ∙ e) (numbered_from_1 x)
+module _ (b : List ℕ) (p : Places) (s : Stands b p) (l : List ℕ) (q : ℕ) (r : Result (Unit {0}) Refusal) (e : refused_number r ≡ placed_refusal (class_of b) l q) where
+  pub not_fitting : {A : Type 0} (x : Refusal) → r ≡ Err x → (rest : Class → Reply A) → placed b l q rest ≡ refuse (number_of x)
+  not_fitting x f rest = not_placed b s.accepted l q rest (number_of x) (sym (ap refused_number f) ∙ e) (numbered_from_1 x)
 
-  module _ (f : r ≡ Fits) where
+  module _ (u : Unit {0}) (f : r ≡ Ok u) where
     none : ◌≡◌ {A = ℕ} 0 (placed_refusal (class_of b) l q)
-    none = sym (ap placing_number f) ∙ e
+    none = sym (ap refused_number f) ∙ e
 
     pub fitting : {A : Type 0} (rest : Class → Reply A) → placed b l q rest ≡ rest (class_of b)
     fitting rest = is_placed b s.accepted l q rest none

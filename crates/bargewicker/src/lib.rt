@@ -4,13 +4,13 @@
 #![tactic(auto)]
 
 ghost use Rattle.std.specs.Prelude.{◌≡◌, []};
-ghost use Rattle.sheet.specs.Verdict.{Stands};
+ghost use Rattle.sheet.specs.Verdict.{refused_number, Stands};
 ghost use Rattle.sheet.specs.Reading.{class_of};
 ghost use Rattle.readings.specs.Promise.{asked, Answered};
 ghost use Rattle.writings.specs.Writings.{named};
 ghost use Rattle.bargewicker.specs.Questions.{judge, probe_in, phase_from, command_in, loop_with, text_of};
 ghost use Rattle.bargewicker.specs.Promises.{Promised};
-ghost use Rattle.bargewicker.specs.Placing.{placed_refusal, placing_number};
+ghost use Rattle.bargewicker.specs.Placing.{placed_refusal};
 
 use accepted::held::CLASSES;
 use accepted::readers::{body_of, state_count};
@@ -19,40 +19,36 @@ use children::lists::list_ok;
 use commands::handle;
 use loops::asked::loop_with;
 use model::{Handling, Loops, Misread, OwnState, Phase, Probed, Refusal};
-use sheet::judging::{Places, Verdict};
+use sheet::judging::Places;
 use writing::write_text;
 
 // Is this byte string a class sheet?
 pub fn judge(sheet: &[u8]) -> Result<(), Refusal>
     ensures { Promised (judge sheet.now) result [] }
 {
-    let verdict = sheet::judging::judge(sheet);
-    match verdict {
-        Verdict::Accepted(_) => Ok(()),
-        Verdict::Refused(x) => Err(x),
-    }
+    sheet::judging::judge(sheet)?;
+    Ok(())
 }
 
 // Which clause of the state is the first whose guard these children make true?
 pub fn probe(sheet: &[u8], children: &[u8], state: u8) -> Result<Probed, Refusal>
     ensures { Promised (probe_in sheet.now children.now state) result [] }
 {
-    let verdict = sheet::judging::judge(sheet);
-    match verdict {
-        Verdict::Accepted(p) => probe_in(sheet, p, children, state),
-        Verdict::Refused(x) => Err(x),
-    }
+    let p = sheet::judging::judge(sheet)?;
+    probe_in(sheet, p, children, state)
 }
 
 // Where does the when phase from the state settle with these children, and what do its DOs send on the way, or does it loop?
-pub fn when_phase(sheet: &[u8], children: &[u8], state: u8, out: &mut [u8]) -> Result<Phase, Refusal>
+pub fn when_phase(
+    sheet: &[u8],
+    children: &[u8],
+    state: u8,
+    out: &mut [u8],
+) -> Result<Phase, Refusal>
     ensures { Promised (phase_from sheet.now children.now state out.old) result out.new }
 {
-    let verdict = sheet::judging::judge(sheet);
-    match verdict {
-        Verdict::Accepted(p) => phase_from(sheet, p, children, state, out),
-        Verdict::Refused(x) => Err(x),
-    }
+    let p = sheet::judging::judge(sheet)?;
+    phase_from(sheet, p, children, state, out)
 }
 
 // What does the command send to which children, which state does it leave, and where does the when phase from there settle, or does it loop?
@@ -65,22 +61,16 @@ pub fn command(
 ) -> Result<(Handling, Phase), Refusal>
     ensures { Promised (command_in sheet.now children.now state command out.old) result out.new }
 {
-    let verdict = sheet::judging::judge(sheet);
-    match verdict {
-        Verdict::Accepted(p) => command_in(sheet, p, children, state, command, out),
-        Verdict::Refused(x) => Err(x),
-    }
+    let p = sheet::judging::judge(sheet)?;
+    command_in(sheet, p, children, state, command, out)
 }
 
 // Which states of children of the present classes can make the node loop, or how many moves does it make at most?
 pub fn loop_question(sheet: &[u8], present: u8, out: &mut [u8]) -> Result<Loops, Refusal>
     ensures { Promised (loop_with sheet.now present out.old) result out.new }
 {
-    let verdict = sheet::judging::judge(sheet);
-    match verdict {
-        Verdict::Accepted(p) => loop_with(sheet, p, present, out),
-        Verdict::Refused(x) => Err(x),
-    }
+    let p = sheet::judging::judge(sheet)?;
+    loop_with(sheet, p, present, out)
 }
 
 // Which class is this text? Where it is read, its sheet and its table of own states stand at the heads of the lent buffers.
@@ -109,13 +99,10 @@ pub fn write_class(
 ) -> Result<usize, Refusal>
     ensures { Promised (text_of sheet.now (named own_name.now own_states.now names.now commands.now classes.now) out.old) result out.new }
 {
-    let verdict = sheet::judging::judge(sheet);
-    match verdict {
-        Verdict::Accepted(p) => write_text(
-            sheet, p, own_name, own_states, names, commands, classes, out,
-        ),
-        Verdict::Refused(x) => Err(x),
-    }
+    let p = sheet::judging::judge(sheet)?;
+    write_text(
+        sheet, p, own_name, own_states, names, commands, classes, out,
+    )
 }
 
 // What follows is asked of an accepted sheet: refusals 10 to 15 in their order, then the answer.
@@ -123,7 +110,7 @@ pub fn write_class(
 // 10 and 11: the child list and the asked state.
 fn place(sheet: &[u8], p: Places, children: &[u8], state: u8) -> Result<(), Refusal>
     requires { Stands sheet.now p }
-    ensures { placing_number result ≡ placed_refusal (class_of sheet.now) children.now state }
+    ensures { refused_number result ≡ placed_refusal (class_of sheet.now) children.now state }
 {
     if !list_ok(body_of(sheet, p, CLASSES), children) {
         return Err(Refusal::ChildList);
@@ -144,7 +131,13 @@ fn probe_in(sheet: &[u8], p: Places, children: &[u8], state: u8) -> Result<Probe
 }
 
 // The when phase: what it comes to on the children of the list.
-fn phase_from(sheet: &[u8], p: Places, children: &[u8], state: u8, out: &mut [u8]) -> Result<Phase, Refusal>
+fn phase_from(
+    sheet: &[u8],
+    p: Places,
+    children: &[u8],
+    state: u8,
+    out: &mut [u8],
+) -> Result<Phase, Refusal>
     requires { Stands sheet.now p }
     ensures { Promised (phase_from sheet.now children.now state out.old) result out.new }
 {

@@ -3,6 +3,7 @@
 -- the list and the state are right
 use native.Mathlib.Omega.{arith}
 use mathlib.Core.Path.{◌≡◌, refl}
+use Rattle.std.proofs.lemmas.Result.{err_from_is_err_and}
 use lib.ListN.{length}
 use Rattle.children.proofs.ListLaws.{list_short}
 use Rattle.bargewicker.specs.Questions.{command_in, reply}
@@ -10,25 +11,26 @@ use Rattle.bargewicker.proofs.PlacingLaws.{not_fitting, fitting, right_list, ask
 use Rattle.bargewicker.proofs.PromiseLaws.{refused_so, over_so, commanded_so}
 use Rattle.bargewicker.proofs.command_in.Goals as goal
 
-pub returns-in-Refused : goal.returns-in-Refused
+pub returns-in_err-place : goal.returns-in_err-place
 unfolding reply
-returns-in-Refused c =
+returns-in_err-place c =
     let a = c.args in
-    refused_so (command_in a.sheet.now a.children.now a.state a.command a.out.now) c.in-Refused.x
-    (not_fitting _ _ c.requires _ _ _ c.place-placing.ensures _ c.in-Refused.is _) _ refl
+    let p = err_from_is_err_and c.from_residual.result c.from_residual.ensures.1 in
+    rw (p.1, p.2) (refused_so (command_in a.sheet.now a.children.now a.state a.command a.out.now) _
+    (not_fitting _ _ c.requires _ _ _ c.place.ensures _ c.in_err-place.was _) _ refl)
 
 pub returns-then-command-gt63 : goal.returns-then-command-gt63
-returns-then-command-gt63 c = over_so _ _ _ (fitting _ _ c.requires _ _ _ c.place-placing.ensures c.in_default.is) _ _ (omega arith) _ refl
+returns-then-command-gt63 c = over_so _ _ _ (fitting _ _ c.requires _ _ _ c.place.ensures _ c.in_ok-place.was) _ _ (omega arith) _ refl
 
 pub handle-requires-clause-stands : goal.handle-requires-clause-stands
-handle-requires-clause-stands c = let e = c.place-placing.ensures in
-    let t = c.in_default.is in
-    let n : length c.occupy.result ≡ 8 = omega arith in (c.requires, record { crewed = crew _ _ c.requires _ _ _ e t _ n c.occupy.ensures; short = list_short _ c.requires.accepted _ (right_list _ _ c.requires _ _ _ e t) })
+handle-requires-clause-stands c = let e = c.place.ensures in
+    let t = c.in_ok-place.was in
+    let n : length c.occupy.result ≡ 8 = omega arith in (c.requires, record { crewed = crew _ _ c.requires _ _ _ e _ t _ n c.occupy.ensures; short = list_short _ c.requires.accepted _ (right_list _ _ c.requires _ _ _ e _ t) })
 
 pub handle-requires-clause-q_bound : goal.handle-requires-clause-q_bound
-handle-requires-clause-q_bound c = let e = c.place-placing.ensures in
-    let t = c.in_default.is in
-    let n : length c.occupy.result ≡ 8 = omega arith in asked_low _ _ c.requires _ _ _ e t
+handle-requires-clause-q_bound c = let e = c.place.ensures in
+    let t = c.in_ok-place.was in
+    let n : length c.occupy.result ≡ 8 = omega arith in asked_low _ _ c.requires _ _ _ e _ t
 
 pub returns : goal.returns
-returns c = commanded_so _ _ _ (fitting _ _ c.requires _ _ _ c.place-placing.ensures c.in_default.is) _ _ (omega arith) c.handle.result _ c.handle.ensures
+returns c = commanded_so _ _ _ (fitting _ _ c.requires _ _ _ c.place.ensures _ c.in_ok-place.was) _ _ (omega arith) c.handle.result _ c.handle.ensures

@@ -1,16 +1,18 @@
 -- `judge` passes the judge's verdict on.
 -- Assumes nothing.
 use mathlib.Core.Path.{refl}
+use Rattle.std.proofs.lemmas.Result.{err_from_is_err_and}
 use Rattle.sheet.proofs.AskedLaws.{stands, refused_too}
 use Rattle.bargewicker.specs.Questions.{judge, reply}
 use Rattle.bargewicker.proofs.PromiseLaws.{refused_so, accepted_so}
 use Rattle.bargewicker.proofs.judge.Goals as goal
 
-pub returns-in-Accepted : goal.returns-in-Accepted
-returns-in-Accepted c = accepted_so _ (stands _ _ c.judge-verdict.ensures _ c.in-Accepted.is).accepted
+pub returns : goal.returns
+returns c = accepted_so _ (stands _ _ c.judge.ensures _ c.in_ok-judge.was).accepted
 
-pub returns-in-Refused : goal.returns-in-Refused
+pub returns-in_err-judge : goal.returns-in_err-judge
 unfolding reply
-returns-in-Refused c =
+returns-in_err-judge c =
     let a = c.args in
-    refused_so (judge a.sheet.now) c.in-Refused.x (refused_too _ _ c.judge-verdict.ensures _ c.in-Refused.is _) _ refl
+    let p = err_from_is_err_and c.from_residual.result c.from_residual.ensures.1 in
+    rw (p.1, p.2) (refused_so (judge a.sheet.now) _ (refused_too _ _ c.judge.ensures _ c.in_err-judge.was _) _ refl)

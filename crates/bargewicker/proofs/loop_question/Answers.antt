@@ -1,19 +1,21 @@
 -- `loop_question` asks where the judge accepts, and gives its refusal where it does not.
 -- Assumes nothing.
 use mathlib.Core.Path.{refl}
+use Rattle.std.proofs.lemmas.Result.{err_from_is_err_and}
 use Rattle.sheet.proofs.AskedLaws.{stands, refused_too}
 use Rattle.bargewicker.specs.Questions.{loop_with, reply}
 use Rattle.bargewicker.proofs.PromiseLaws.{refused_so, looped_so}
 use Rattle.bargewicker.proofs.loop_question.Goals as goal
 
 pub loop_with-requires : goal.loop_with-requires
-loop_with-requires c = stands _ _ c.judge-verdict.ensures _ c.in-Accepted.is
+loop_with-requires c = stands _ _ c.judge.ensures _ c.in_ok-p.was
 
-pub returns-in-Accepted : goal.returns-in-Accepted
-returns-in-Accepted c = looped_so _ _ _ (stands _ _ c.judge-verdict.ensures _ c.in-Accepted.is).accepted c.loop_with.result _ c.loop_with.ensures
+pub returns : goal.returns
+returns c = looped_so _ _ _ (stands _ _ c.judge.ensures _ c.in_ok-p.was).accepted c.loop_with.result _ c.loop_with.ensures
 
-pub returns-in-Refused : goal.returns-in-Refused
+pub returns-in_err-p : goal.returns-in_err-p
 unfolding reply
-returns-in-Refused c =
+returns-in_err-p c =
     let a = c.args in
-    refused_so (loop_with a.sheet.now a.present a.out.now) c.in-Refused.x (refused_too _ _ c.judge-verdict.ensures _ c.in-Refused.is _) _ refl
+    let p = err_from_is_err_and c.from_residual.result c.from_residual.ensures.1 in
+    rw (p.1, p.2) (refused_so (loop_with a.sheet.now a.present a.out.now) _ (refused_too _ _ c.judge.ensures _ c.in_err-p.was _) _ refl)

@@ -2,6 +2,7 @@
 -- Assumes nothing.
 use native.Mathlib.Omega.{arith}
 use mathlib.Core.Path.{◌≡◌, refl}
+use Rattle.std.proofs.lemmas.Result.{err_from_is_err_and}
 use lib.ListN.{length}
 use Rattle.children.proofs.ListLaws.{list_short}
 use Rattle.bargewicker.specs.Questions.{phase_from, reply}
@@ -9,22 +10,23 @@ use Rattle.bargewicker.proofs.PlacingLaws.{not_fitting, fitting, right_list, ask
 use Rattle.bargewicker.proofs.PromiseLaws.{refused_so, phased_so}
 use Rattle.bargewicker.proofs.phase_from.Goals as goal
 
-pub returns-in-Refused : goal.returns-in-Refused
+pub returns-in_err-place : goal.returns-in_err-place
 unfolding reply
-returns-in-Refused c =
+returns-in_err-place c =
     let a = c.args in
-    refused_so (phase_from a.sheet.now a.children.now a.state a.out.now) c.in-Refused.x
-    (not_fitting _ _ c.requires _ _ _ c.place-placing.ensures _ c.in-Refused.is _) _ refl
+    let p = err_from_is_err_and c.from_residual.result c.from_residual.ensures.1 in
+    rw (p.1, p.2) (refused_so (phase_from a.sheet.now a.children.now a.state a.out.now) _
+    (not_fitting _ _ c.requires _ _ _ c.place.ensures _ c.in_err-place.was _) _ refl)
 
 pub when_phase-requires-clause-stands : goal.when_phase-requires-clause-stands
-when_phase-requires-clause-stands c = let e = c.place-placing.ensures in
-    let t = c.in_default.is in
-    let n : length c.occupy.result ≡ 8 = omega arith in (c.requires, record { crewed = crew _ _ c.requires _ _ _ e t _ n c.occupy.ensures; short = list_short _ c.requires.accepted _ (right_list _ _ c.requires _ _ _ e t) })
+when_phase-requires-clause-stands c = let e = c.place.ensures in
+    let t = c.in_ok-place.was in
+    let n : length c.occupy.result ≡ 8 = omega arith in (c.requires, record { crewed = crew _ _ c.requires _ _ _ e _ t _ n c.occupy.ensures; short = list_short _ c.requires.accepted _ (right_list _ _ c.requires _ _ _ e _ t) })
 
 pub when_phase-requires-clause-q_bound : goal.when_phase-requires-clause-q_bound
-when_phase-requires-clause-q_bound c = let e = c.place-placing.ensures in
-    let t = c.in_default.is in
-    let n : length c.occupy.result ≡ 8 = omega arith in asked_low _ _ c.requires _ _ _ e t
+when_phase-requires-clause-q_bound c = let e = c.place.ensures in
+    let t = c.in_ok-place.was in
+    let n : length c.occupy.result ≡ 8 = omega arith in asked_low _ _ c.requires _ _ _ e _ t
 
 pub returns : goal.returns
-returns c = phased_so _ _ _ (fitting _ _ c.requires _ _ _ c.place-placing.ensures c.in_default.is) _ c.when_phase.result _ c.when_phase.ensures
+returns c = phased_so _ _ _ (fitting _ _ c.requires _ _ _ c.place.ensures _ c.in_ok-place.was) _ c.when_phase.result _ c.when_phase.ensures
