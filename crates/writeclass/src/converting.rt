@@ -58,15 +58,8 @@ fn text_made(
     requires { (from ≤ start) × (start ≤ length file.now) }
     ensures { Prints file.now (text_file file.now text.old (named own_name.now own_states.now names.now commands.now classes.now) from start) result text.new }
 {
-    let answer = written(
-        &file[start..],
-        own_name,
-        own_states,
-        names,
-        commands,
-        classes,
-        text,
-    );
+    let sheet = &file[start..];
+    let answer = written(sheet, own_name, own_states, names, commands, classes, text);
     match answer {
         Ok(size) => Ok(ClassFile {
             from,
@@ -77,7 +70,7 @@ fn text_made(
             x,
             file,
             from,
-            &file[start..],
+            sheet,
             own_states.len() / 32,
             names.len() / 32,
             commands.len() / 32,

@@ -138,6 +138,7 @@ pub fn class_name(file: &[u8], from: usize, n: usize) -> Field
 {
     let mut left = n;
     let mut at = from;
+    // No count: a step is a field long.
     loop {
         let field = next_field(file, at);
         let start = field.start;
