@@ -5,9 +5,9 @@ ghost use Rattle.arrows.specs.Sorting.{Took, HitsLent, RanAll, RunsLent, Ranges,
 use lanes::words::word_at;
 use sweeps::sweep_list;
 
-// The clauses of a class: where the guard of each when clause stands and which word of the table it aims at (1,280 where it aims at none), the
-// first when clause and the first action clause of each state, behind the last state their number, and where the statements of each action
-// clause start.
+// The clauses of a class: where the guard of each when clause stands and which word of the table it aims at (1,280 where it aims at none, as
+// `aim` of specs/ numbers it), the first when clause and the first action clause of each state, behind the last state their number, and where
+// the statements of each action clause start. A list of each, as `Ranges` and `Sorted` of specs/ have them.
 #[derive(Clone, Copy)]
 pub struct Clauses {
     pub places: [usize; 256],
