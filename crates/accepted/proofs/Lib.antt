@@ -1,3 +1,2 @@
 pub mod ReaderLaws
-pub mod HeldLaws
 pub mod ClauseLaws

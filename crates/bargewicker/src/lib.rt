@@ -12,21 +12,20 @@ ghost use Rattle.bargewicker.specs.Questions.{judge, probe_in, phase_from, comma
 ghost use Rattle.bargewicker.specs.Promises.{Promised};
 ghost use Rattle.bargewicker.specs.Placing.{placed_refusal};
 
-use accepted::held::CLASSES;
-use accepted::readers::{body_of, state_count};
+use accepted::held::{CLASSES, Sheet};
 use children::crews::occupy;
 use children::lists::list_ok;
 use commands::handle;
 use loops::asked::loop_with;
 use model::{Handling, Loops, Misread, OwnState, Phase, Probed, Refusal};
-use sheet::judging::Places;
+use running::Crew;
 use writing::write_text;
 
 // Is this byte string a class sheet?
 pub fn judge(sheet: &[u8]) -> Result<(), Refusal>
     ensures { Promised (judge sheet.now) result [] }
 {
-    sheet::judging::judge(sheet)?;
+    Sheet::judged(sheet)?;
     Ok(())
 }
 
@@ -34,8 +33,8 @@ pub fn judge(sheet: &[u8]) -> Result<(), Refusal>
 pub fn probe(sheet: &[u8], children: &[u8], state: u8) -> Result<Probed, Refusal>
     ensures { Promised (probe_in sheet.now children.now state) result [] }
 {
-    let p = sheet::judging::judge(sheet)?;
-    probe_in(sheet, p, children, state)
+    let sheet = Sheet::judged(sheet)?;
+    probe_in(sheet, children, state)
 }
 
 // Where does the when phase from the state settle with these children, and what do its DOs send on the way, or does it loop?
@@ -47,8 +46,8 @@ pub fn when_phase(
 ) -> Result<Phase, Refusal>
     ensures { Promised (phase_from sheet.now children.now state out.old) result out.new }
 {
-    let p = sheet::judging::judge(sheet)?;
-    phase_from(sheet, p, children, state, out)
+    let sheet = Sheet::judged(sheet)?;
+    phase_from(sheet, children, state, out)
 }
 
 // What does the command send to which children, which state does it leave, and where does the when phase from there settle, or does it loop?
@@ -61,16 +60,16 @@ pub fn command(
 ) -> Result<(Handling, Phase), Refusal>
     ensures { Promised (command_in sheet.now children.now state command out.old) result out.new }
 {
-    let p = sheet::judging::judge(sheet)?;
-    command_in(sheet, p, children, state, command, out)
+    let sheet = Sheet::judged(sheet)?;
+    command_in(sheet, children, state, command, out)
 }
 
 // Which states of children of the present classes can make the node loop, or how many moves does it make at most?
 pub fn loop_question(sheet: &[u8], present: u8, out: &mut [u8]) -> Result<Loops, Refusal>
     ensures { Promised (loop_with sheet.now present out.old) result out.new }
 {
-    let p = sheet::judging::judge(sheet)?;
-    loop_with(sheet, p, present, out)
+    let sheet = Sheet::judged(sheet)?;
+    loop_with(sheet, present, out)
 }
 
 // Which class is this text? Where it is read, its sheet and its table of own states stand at the heads of the lent buffers.
@@ -99,75 +98,69 @@ pub fn write_class(
 ) -> Result<usize, Refusal>
     ensures { Promised (text_of sheet.now (named own_name.now own_states.now names.now commands.now classes.now) out.old) result out.new }
 {
-    let p = sheet::judging::judge(sheet)?;
+    let sheet = Sheet::judged(sheet)?;
     write_text(
-        sheet, p, own_name, own_states, names, commands, classes, out,
+        sheet, own_name, own_states, names, commands, classes, out,
     )
 }
 
 // What follows is asked of an accepted sheet: refusals 10 to 15 in their order, then the answer.
 
 // 10 and 11: the child list and the asked state.
-fn place(sheet: &[u8], p: Places, children: &[u8], state: u8) -> Result<(), Refusal>
-    requires { Stands sheet.now p }
-    ensures { refused_number result ≡ placed_refusal (class_of sheet.now) children.now state }
+fn place(sheet: Sheet, children: &[u8], state: u8) -> Result<(), Refusal>
+    ensures { refused_number result ≡ placed_refusal (class_of sheet.entry.bytes.now) children.now state }
 {
-    if !list_ok(body_of(sheet, p, CLASSES), children) {
+    if !list_ok(sheet.body(CLASSES), children) {
         return Err(Refusal::ChildList);
     }
-    if state_count(sheet, p) <= (state as usize) {
+    if sheet.state_count() <= (state as usize) {
         return Err(Refusal::AskedState);
     }
     Ok(())
 }
 
 // The probe.
-fn probe_in(sheet: &[u8], p: Places, children: &[u8], state: u8) -> Result<Probed, Refusal>
-    requires { Stands sheet.now p }
-    ensures { Promised (probe_in sheet.now children.now state) result [] }
+fn probe_in(sheet: Sheet, children: &[u8], state: u8) -> Result<Probed, Refusal>
+    ensures { Promised (probe_in sheet.entry.bytes.now children.now state) result [] }
 {
-    place(sheet, p, children, state)?;
-    Ok(node::probing::probe(sheet, p, OwnState(state), occupy(children)))
+    place(sheet, children, state)?;
+    Ok(node::probing::probe(sheet, OwnState(state), occupy(children)))
 }
 
 // The when phase: what it comes to on the children of the list.
 fn phase_from(
-    sheet: &[u8],
-    p: Places,
+    sheet: Sheet,
     children: &[u8],
     state: u8,
     out: &mut [u8],
 ) -> Result<Phase, Refusal>
-    requires { Stands sheet.now p }
-    ensures { Promised (phase_from sheet.now children.now state out.old) result out.new }
+    ensures { Promised (phase_from sheet.entry.bytes.now children.now state out.old) result out.new }
 {
-    place(sheet, p, children, state)?;
-    phases::when_phase(sheet, p, children, occupy(children), OwnState(state), out)
+    place(sheet, children, state)?;
+    let crew = Crew {
+        list: children,
+        sets: occupy(children),
+    };
+    phases::when_phase(sheet, crew, OwnState(state), out)
 }
 
 // The command: 12, then what handling it, and the when phase behind it, come to.
 fn command_in(
-    sheet: &[u8],
-    p: Places,
+    sheet: Sheet,
     children: &[u8],
     state: u8,
     command: u8,
     out: &mut [u8],
 ) -> Result<(Handling, Phase), Refusal>
-    requires { Stands sheet.now p }
-    ensures { Promised (command_in sheet.now children.now state command out.old) result out.new }
+    ensures { Promised (command_in sheet.entry.bytes.now children.now state command out.old) result out.new }
 {
-    place(sheet, p, children, state)?;
+    place(sheet, children, state)?;
     if 63 < command {
         return Err(Refusal::AskedCommand);
     }
-    handle(
-        sheet,
-        p,
-        children,
-        occupy(children),
-        OwnState(state),
-        command,
-        out,
-    )
+    let crew = Crew {
+        list: children,
+        sets: occupy(children),
+    };
+    handle(sheet, crew, OwnState(state), command, out)
 }

@@ -2,19 +2,16 @@
 ghost use Rattle.std.specs.Prelude.{◌≡◌, ◌<◌, ◌≤◌};
 ghost use Rattle.model.specs.Answers.{referrer_as};
 ghost use Rattle.records.specs.Bytes.{in_fours};
-ghost use Rattle.sheet.specs.Verdict.{Stands};
 ghost use Rattle.arrows.specs.Sorting.{aim};
 ghost use Rattle.blocks.specs.ClauseTables.{FirstsOf, FromsOf, StateLent, ReadState, ClausesOf};
 
-use accepted::held::{ACTIONS, STATES, WHENS};
-use accepted::readers::{body_of, state_count};
+use accepted::held::{ACTIONS, STATES, WHENS, Sheet};
 use arrows::sorting::Clauses;
 use bodies::clauses::{
     ACTION_CLAUSES, WHEN_CLAUSES, count_at, count_sum, guard_place, referrer_at,
 };
 use model::Referrer;
 use records::words::in_fours;
-use sheet::judging::Places;
 
 // Which word of the table a clause of state q aims at, whose action clauses stand from `first` on: of a move, of the run of an action clause,
 // or none.
@@ -77,15 +74,14 @@ fn read_state(
 }
 
 // The clauses, state by state.
-pub fn read_clauses(sheet: &[u8], p: Places) -> Clauses
-    requires { Stands sheet.now p }
-    ensures { ClausesOf sheet.now result }
+pub fn read_clauses(sheet: Sheet) -> Clauses
+    ensures { ClausesOf sheet.entry.bytes.now result }
 {
-    let whens = body_of(sheet, p, WHENS);
-    let firsts = first_clauses(body_of(sheet, p, STATES), WHEN_CLAUSES);
-    let actions = first_clauses(body_of(sheet, p, STATES), ACTION_CLAUSES);
-    let froms = statement_starts(body_of(sheet, p, ACTIONS));
-    let states = state_count(sheet, p);
+    let whens = sheet.body(WHENS);
+    let firsts = first_clauses(sheet.body(STATES), WHEN_CLAUSES);
+    let actions = first_clauses(sheet.body(STATES), ACTION_CLAUSES);
+    let froms = statement_starts(sheet.body(ACTIONS));
+    let states = sheet.state_count();
     let mut places = [0usize; 256];
     let mut aims = [0usize; 256];
     for q in 0..states {

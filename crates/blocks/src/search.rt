@@ -1,17 +1,14 @@
 // The search: blocks rising, those in which no lane counts skipped; the first with a loop stops it.
 ghost use Rattle.std.specs.Prelude.{◌≡◌, ◌≤◌, max};
-ghost use Rattle.sheet.specs.Verdict.{Stands};
 ghost use Rattle.blocks.specs.Search.{CellsOf, Tables, BlockIs, Ready, Finds, Found};
 
 use crate::clauses::read_clauses;
-use accepted::held::{GUARDS, STATEMENTS};
-use accepted::readers::body_of;
+use accepted::held::{GUARDS, STATEMENTS, Sheet};
 use arrows::levels::count_moves;
 use arrows::sorting::{Clauses, sort_lanes};
 use configurations::Cells;
 use lanes::counting::{Present, counted_lanes, present_masks};
 use lanes::words::lowest_lane;
-use sheet::judging::Places;
 use truths::filling::fill_words;
 use truths::plans::{Plan, plan_guards};
 
@@ -64,13 +61,13 @@ fn try_blocks(
 }
 
 // The search on an accepted sheet: its tables made once, then the blocks.
-pub fn search(sheet: &[u8], p: Places, present: u8, cells: Cells) -> Result<usize, u32>
-    requires { Stands sheet.now p × (CellsOf sheet.now present cells) }
-    ensures { Found sheet.now present result }
+pub fn search(sheet: Sheet, present: u8, cells: Cells) -> Result<usize, u32>
+    requires { CellsOf sheet.bytes.now present cells }
+    ensures { Found sheet.entry.bytes.now present result }
 {
-    let plan = plan_guards(body_of(sheet, p, GUARDS), cells);
-    let clauses = read_clauses(sheet, p);
-    let statements = body_of(sheet, p, STATEMENTS);
+    let plan = plan_guards(sheet.body(GUARDS), cells);
+    let clauses = read_clauses(sheet);
+    let statements = sheet.body(STATEMENTS);
     try_blocks(
         &plan,
         &clauses,

@@ -6,22 +6,19 @@ ghost use Rattle.model.specs.Answers.{referrer_as};
 ghost use Rattle.records.specs.Bytes.{in_fours};
 ghost use Rattle.sheet.specs.Contents.{body};
 ghost use Rattle.sheet.specs.Reading.{class_of};
-ghost use Rattle.sheet.specs.Verdict.{Stands};
 ghost use Rattle.pen.specs.Writing.{Puts};
 ghost use Rattle.lists.specs.Lent.{lent};
 ghost use Rattle.writings.specs.Layout.{class_text, states_text};
 ghost use Rattle.writings.specs.Writings.{named};
 ghost use Rattle.classtext.specs.ClassText.{WhenOf, referrer_words, when_in_text, whens_text, action_in_text, actions_text, state_in_text};
 
-use accepted::held::{ACTIONS, GUARDS, STATEMENTS, WHENS};
-use accepted::readers::{body_of, clauses_of, state_count};
+use accepted::held::{ACTIONS, GUARDS, STATEMENTS, WHENS, Sheet};
 use bodies::clauses::{ACTION_CLAUSES, WHEN_CLAUSES, action_command, guard_place, referrer_at};
 use bodies::statements::statements_of;
 use bodytext::put_part;
 use guardtext::put_guard;
 use model::{OwnState, Referrer};
 use pen::put_bytes;
-use sheet::judging::Places;
 use spelling::{put_characters, put_indent, put_name};
 
 // A referrer in state q, whose action clauses stand from `first` on: a stay_in_state is written with q.
@@ -57,8 +54,7 @@ fn put_referrer(
 
 // When clause w of state q.
 fn put_when(
-    sheet: &[u8],
-    p: Places,
+    sheet: Sheet,
     q: OwnState,
     w: usize,
     own: &[u8],
@@ -68,19 +64,18 @@ fn put_when(
     out: &mut [u8],
     at: usize,
 ) -> usize
-    requires stands { Stands sheet.now p }
-    requires when_of { WhenOf sheet.now q.0 w }
-    ensures { Puts (when_in_text sheet.now q.0 own.now (lent names.now commands.now classes.now) w) out.old at out.new result }
+    requires { WhenOf sheet.bytes.now q.0 w }
+    ensures { Puts (when_in_text sheet.entry.bytes.now q.0 own.now (lent names.now commands.now classes.now) w) out.old at out.new result }
 {
-    let whens = body_of(sheet, p, WHENS);
+    let whens = sheet.body(WHENS);
     let a = put_indent(out, at, 2);
     let b = put_bytes(out, a, b"when ");
-    let guards = body_of(sheet, p, GUARDS);
+    let guards = sheet.body(GUARDS);
     let c = put_guard(guards, guard_place(whens, w), names, classes, out, b);
     let d = put_bytes(out, c, b" ");
-    let clauses = clauses_of(sheet, p, q, ACTION_CLAUSES);
+    let clauses = sheet.clauses_of(q, ACTION_CLAUSES);
     let first = clauses.first;
-    let actions = body_of(sheet, p, ACTIONS);
+    let actions = sheet.body(ACTIONS);
     let referrer = referrer_at(whens, w);
     let e = put_referrer(actions, first, q, referrer, own, commands, out, d);
     put_bytes(out, e, b"\n")
@@ -88,8 +83,7 @@ fn put_when(
 
 // The when clauses of state q, in order.
 fn put_whens(
-    sheet: &[u8],
-    p: Places,
+    sheet: Sheet,
     q: OwnState,
     own: &[u8],
     names: &[u8],
@@ -98,19 +92,16 @@ fn put_whens(
     out: &mut [u8],
     at: usize,
 ) -> usize
-    requires stands { Stands sheet.now p }
-    requires q_bound { q.0 < in_fours (body sheet.now 1) }
-    ensures { Puts (whens_text sheet.now q.0 own.now (lent names.now commands.now classes.now)) out.old at out.new result }
+    requires { q.0 < in_fours (body sheet.bytes.now 1) }
+    ensures { Puts (whens_text sheet.entry.bytes.now q.0 own.now (lent names.now commands.now classes.now)) out.old at out.new result }
 {
-    let clauses = clauses_of(sheet, p, q, WHEN_CLAUSES);
+    let clauses = sheet.clauses_of(q, WHEN_CLAUSES);
     let first = clauses.first;
     let n = clauses.count;
     let mut end = at;
     for i in 0..n {
         end = put_when(
-            sheet,
-            p,
-            q,
+            sheet, q,
             first + i,
             own,
             names,
@@ -125,8 +116,7 @@ fn put_whens(
 
 // Action clause a of the sheet: its command, and its statements a level deeper.
 fn put_action(
-    sheet: &[u8],
-    p: Places,
+    sheet: Sheet,
     a: usize,
     own: &[u8],
     names: &[u8],
@@ -135,24 +125,22 @@ fn put_action(
     out: &mut [u8],
     at: usize,
 ) -> usize
-    requires stands { Stands sheet.now p }
-    requires a_bound { a < in_fours (body sheet.now 4) }
-    ensures { Puts (action_in_text sheet.now own.now (lent names.now commands.now classes.now) a) out.old at out.new result }
+    requires { a < in_fours (body sheet.bytes.now 4) }
+    ensures { Puts (action_in_text sheet.entry.bytes.now own.now (lent names.now commands.now classes.now) a) out.old at out.new result }
 {
-    let actions = body_of(sheet, p, ACTIONS);
+    let actions = sheet.body(ACTIONS);
     let b = put_indent(out, at, 2);
     let c = put_bytes(out, b, b"action: ");
     let d = put_name(out, c, commands, 32, action_command(actions, a) as usize);
     let e = put_bytes(out, d, b"\n");
-    let guards = body_of(sheet, p, GUARDS);
-    let part = statements_of(actions, body_of(sheet, p, STATEMENTS), a);
+    let guards = sheet.body(GUARDS);
+    let part = statements_of(actions, sheet.body(STATEMENTS), a);
     put_part(guards, part, 3, own, names, commands, classes, out, e)
 }
 
 // The action clauses of state q, in order. One walk for both kinds of clauses would take what is written of each as a closure, and say it again.
 fn put_actions(
-    sheet: &[u8],
-    p: Places,
+    sheet: Sheet,
     q: OwnState,
     own: &[u8],
     names: &[u8],
@@ -161,24 +149,22 @@ fn put_actions(
     out: &mut [u8],
     at: usize,
 ) -> usize
-    requires stands { Stands sheet.now p }
-    requires q_bound { q.0 < in_fours (body sheet.now 1) }
-    ensures { Puts (actions_text sheet.now q.0 own.now (lent names.now commands.now classes.now)) out.old at out.new result }
+    requires { q.0 < in_fours (body sheet.bytes.now 1) }
+    ensures { Puts (actions_text sheet.entry.bytes.now q.0 own.now (lent names.now commands.now classes.now)) out.old at out.new result }
 {
-    let clauses = clauses_of(sheet, p, q, ACTION_CLAUSES);
+    let clauses = sheet.clauses_of(q, ACTION_CLAUSES);
     let first = clauses.first;
     let n = clauses.count;
     let mut end = at;
     for i in 0..n {
-        end = put_action(sheet, p, first + i, own, names, commands, classes, out, end);
+        end = put_action(sheet, first + i, own, names, commands, classes, out, end);
     }
     end
 }
 
 // State q: its name, its when clauses, its action clauses.
 fn put_state(
-    sheet: &[u8],
-    p: Places,
+    sheet: Sheet,
     q: OwnState,
     own: &[u8],
     names: &[u8],
@@ -187,22 +173,20 @@ fn put_state(
     out: &mut [u8],
     at: usize,
 ) -> usize
-    requires stands { Stands sheet.now p }
-    requires q_bound { q.0 < in_fours (body sheet.now 1) }
-    ensures { Puts (state_in_text sheet.now q.0 own.now (lent names.now commands.now classes.now)) out.old at out.new result }
+    requires { q.0 < in_fours (body sheet.bytes.now 1) }
+    ensures { Puts (state_in_text sheet.entry.bytes.now q.0 own.now (lent names.now commands.now classes.now)) out.old at out.new result }
 {
     let a = put_indent(out, at, 1);
     let b = put_bytes(out, a, b"state: ");
     let c = put_name(out, b, own, 32, q.0 as usize);
     let d = put_bytes(out, c, b"\n");
-    let e = put_whens(sheet, p, q, own, names, commands, classes, out, d);
-    put_actions(sheet, p, q, own, names, commands, classes, out, e)
+    let e = put_whens(sheet, q, own, names, commands, classes, out, d);
+    put_actions(sheet, q, own, names, commands, classes, out, e)
 }
 
 // All states, in order.
 fn put_states(
-    sheet: &[u8],
-    p: Places,
+    sheet: Sheet,
     own: &[u8],
     names: &[u8],
     commands: &[u8],
@@ -210,22 +194,20 @@ fn put_states(
     out: &mut [u8],
     at: usize,
 ) -> usize
-    requires { Stands sheet.now p }
-    ensures { Puts (states_text own.now (lent names.now commands.now classes.now) 0 (class_of sheet.now).states) out.old at out.new result }
+    ensures { Puts (states_text own.now (lent names.now commands.now classes.now) 0 (class_of sheet.entry.bytes.now).states) out.old at out.new result }
 {
-    let n = state_count(sheet, p);
+    let n = sheet.state_count();
     let mut end = at;
     for q in 0..n {
         let here = OwnState(q as u8);
-        end = put_state(sheet, p, here, own, names, commands, classes, out, end);
+        end = put_state(sheet, here, own, names, commands, classes, out, end);
     }
     end
 }
 
 // The whole text.
 pub fn put_text(
-    sheet: &[u8],
-    p: Places,
+    sheet: Sheet,
     own_name: &[u8],
     own: &[u8],
     names: &[u8],
@@ -234,11 +216,10 @@ pub fn put_text(
     out: &mut [u8],
     at: usize,
 ) -> usize
-    requires { Stands sheet.now p }
-    ensures { Puts (class_text (named own_name.now own.now names.now commands.now classes.now) (class_of sheet.now)) out.old at out.new result }
+    ensures { Puts (class_text (named own_name.now own.now names.now commands.now classes.now) (class_of sheet.entry.bytes.now)) out.old at out.new result }
 {
     let a = put_bytes(out, at, b"class: $FWPART_$TOP$");
     let b = put_characters(out, a, own_name);
     let c = put_bytes(out, b, b"\n");
-    put_states(sheet, p, own, names, commands, classes, out, c)
+    put_states(sheet, own, names, commands, classes, out, c)
 }

@@ -5,26 +5,21 @@
 ghost use Rattle.std.specs.Prelude.{◌≡◌, ◌<◌};
 ghost use Rattle.records.specs.Bytes.{in_fours};
 ghost use Rattle.sheet.specs.Contents.{body};
-ghost use Rattle.sheet.specs.Verdict.{Stands};
-ghost use Rattle.running.specs.Running.{Runnable};
 ghost use Rattle.commands.specs.Commands.{first_action_for, left_in, own_in, RunsCommand, Handles};
 
-use accepted::held::ACTIONS;
-use accepted::readers::{body_of, clauses_of};
+use accepted::held::{ACTIONS, Sheet};
 use bodies::clauses::{ACTION_CLAUSES, action_command};
 use model::{Handling, OwnState, Phase, Refusal};
 use phases::when_phase;
-use running::run_action;
-use sheet::judging::Places;
+use running::{Crew, run_action};
 
 // The number within state q of its action clause for a command, if there is one.
-fn clause_for(sheet: &[u8], p: Places, q: OwnState, command: u8) -> Option<usize>
-    requires { Stands sheet.now p }
-    ensures { result ≡ first_action_for sheet.now q.0 command }
+fn clause_for(sheet: Sheet, q: OwnState, command: u8) -> Option<usize>
+    ensures { result ≡ first_action_for sheet.entry.bytes.now q.0 command }
 {
-    let clauses = clauses_of(sheet, p, q, ACTION_CLAUSES);
+    let clauses = sheet.clauses_of(q, ACTION_CLAUSES);
     let first = clauses.first;
-    let actions = body_of(sheet, p, ACTIONS);
+    let actions = sheet.body(ACTIONS);
     for i in 0..clauses.count {
         if action_command(actions, first + i) == command {
             return Some(i);
@@ -35,21 +30,18 @@ fn clause_for(sheet: &[u8], p: Places, q: OwnState, command: u8) -> Option<usize
 
 // The command alone, with what it sends written from the buffer's front on, as far as it reaches.
 fn run_command(
-    sheet: &[u8],
-    p: Places,
-    list: &[u8],
-    sets: [u32; 8],
+    sheet: Sheet,
+    crew: Crew,
     q: OwnState,
     command: u8,
     out: &mut [u8],
 ) -> Handling
-    requires { Stands sheet.now p × Runnable sets list.now }
-    ensures { RunsCommand sheet.now list.now q.0 command out.old out.new result }
+    ensures { RunsCommand sheet.entry.bytes.now crew.entry.list.now q.0 command out.old out.new result }
 {
-    let Some(a) = clause_for(sheet, p, q, command) else {
+    let Some(a) = clause_for(sheet, q, command) else {
         return Handling::Ignored(q);
     };
-    let ran = run_action(sheet, p, list, sets, q, a, out, 0);
+    let ran = run_action(sheet, crew, q, a, out, 0);
     Handling::Handled(ran.moved.unwrap_or(q), ran.at)
 }
 
@@ -76,24 +68,21 @@ fn own_bytes(handling: Handling) -> usize
 // Handles a command in state q, then runs the when phase from the state that it leaves: 15 where what both send needs more than the buffer
 // holds, and then nothing is written.
 pub fn handle(
-    sheet: &[u8],
-    p: Places,
-    list: &[u8],
-    sets: [u32; 8],
+    sheet: Sheet,
+    crew: Crew,
     q: OwnState,
     command: u8,
     out: &mut [u8],
 ) -> Result<(Handling, Phase), Refusal>
-    requires stands { Stands sheet.now p × Runnable sets list.now }
-    requires q_bound { q.0 < in_fours (body sheet.now 1) }
-    ensures { Handles sheet.now list.now q.0 command out.old out.new result }
+    requires { q.0 < in_fours (body sheet.bytes.now 1) }
+    ensures { Handles sheet.entry.bytes.now crew.entry.list.now q.0 command out.old out.new result }
 {
-    let counted = run_command(sheet, p, list, sets, q, command, &mut out[..0]);
+    let counted = run_command(sheet, crew, q, command, &mut out[..0]);
     let own = own_bytes(counted);
     if out.len() < own {
         return Err(Refusal::Room);
     }
-    let phase = when_phase(sheet, p, list, sets, left_by(counted), &mut out[own..])?;
-    let handling = run_command(sheet, p, list, sets, q, command, &mut out[..own]);
+    let phase = when_phase(sheet, crew, left_by(counted), &mut out[own..])?;
+    let handling = run_command(sheet, crew, q, command, &mut out[..own]);
     Ok((handling, phase))
 }

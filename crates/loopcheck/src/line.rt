@@ -5,11 +5,10 @@ ghost use Rattle.model.specs.Answers.{loop_numbers};
 ghost use Rattle.loops.specs.LoopQuestion.{loops_values};
 ghost use Rattle.loopcheck.specs.Line.{loop_reply, children_in, Printed};
 
-use accepted::readers::class_count;
+use accepted::held::Sheet;
 use loopline::loopcheck_line;
 use loops::asked::loop_with;
 use model::{Loops, Refusal};
-use sheet::judging::judge;
 
 // A line has less than 1,024 bytes: a list has at most 20 children.
 pub const LINE: usize = 1024;
@@ -27,8 +26,8 @@ fn all_classes(k: usize) -> u8
 fn ask(sheet: &[u8], list: &mut [u8]) -> Result<Loops, Refusal>
     ensures { Answered loops_values (loop_reply sheet.now list.old) list.old (loop_numbers result) list.new }
 {
-    let p = judge(sheet)?;
-    loop_with(sheet, p, all_classes(class_count(sheet, p)), list)
+    let sheet = Sheet::judged(sheet)?;
+    loop_with(sheet, all_classes(sheet.class_count()), list)
 }
 
 // How many children the list of an answer has: one for each set bit of a loop's configuration.

@@ -3,18 +3,16 @@
 ghost use Rattle.std.specs.Prelude.{◌≡◌, ◌<◌, ◌≤◌};
 ghost use Rattle.model.specs.Moves.{returns_soon};
 ghost use Rattle.sheet.specs.Reading.{class_of};
-ghost use Rattle.sheet.specs.Verdict.{Stands};
-ghost use Rattle.running.specs.Running.{Runnable};
 ghost use Rattle.configurations.specs.Configurations.{chosen};
 ghost use Rattle.configurations.specs.Cells.{cells_of, AllSmall};
 ghost use Rattle.loops.specs.Chase.{table_next, MovesTo, Tabulates, smallest, returning_state};
 
+use accepted::held::Sheet;
 use crate::cells::{spread, write_list};
-use accepted::readers::state_count;
 use configurations::Cells;
 use model::OwnState;
 use phases::{Turn, turn_from};
-use sheet::judging::Places;
+use running::Crew;
 
 // Where each state's next move leads; 255 where it makes none, as `leads` of specs/ reads a byte.
 #[derive(Clone, Copy)]
@@ -23,12 +21,11 @@ pub struct Table {
 }
 
 // Where the next move from state q leads; 255 where none is made. What a DO sends is not kept.
-fn next_from(sheet: &[u8], p: Places, list: &[u8], sets: [u32; 8], q: OwnState) -> u8
-    requires { Stands sheet.now p × Runnable sets list.now }
-    ensures { MovesTo sheet.now list.now q.0 result }
+fn next_from(sheet: Sheet, crew: Crew, q: OwnState) -> u8
+    ensures { MovesTo sheet.entry.bytes.now crew.entry.list.now q.0 result }
 {
     let mut unread = [0u8; 1];
-    let turned = turn_from(sheet, p, list, sets, q, &mut unread, 0);
+    let turned = turn_from(sheet, crew, q, &mut unread, 0);
     match turned.turn {
         Turn::Moves(t) => t.0,
         Turn::Stops(_) => 255,
@@ -36,13 +33,12 @@ fn next_from(sheet: &[u8], p: Places, list: &[u8], sets: [u32; 8], q: OwnState) 
 }
 
 // The table of moves: each state's turn is taken once.
-pub fn tabulate(sheet: &[u8], p: Places, list: &[u8], sets: [u32; 8]) -> Table
-    requires { Stands sheet.now p × Runnable sets list.now }
-    ensures { Tabulates sheet.now list.now result }
+pub fn tabulate(sheet: Sheet, crew: Crew) -> Table
+    ensures { Tabulates sheet.entry.bytes.now crew.entry.list.now result }
 {
     let mut to = [255u8; 32];
-    for q in 0..state_count(sheet, p) {
-        to[q] = next_from(sheet, p, list, sets, OwnState(q as u8));
+    for q in 0..sheet.state_count() {
+        to[q] = next_from(sheet, crew, OwnState(q as u8));
     }
     Table { to }
 }
@@ -83,12 +79,16 @@ pub fn smallest_returning(table: Table, n: usize) -> OwnState
 }
 
 // The smallest own state that returns to itself in configuration k; 0 where none does.
-pub fn returning_in(sheet: &[u8], p: Places, cells: Cells, k: u32) -> OwnState
-    requires { Stands sheet.now p × ((cells.count ≤ 20) × AllSmall cells) }
-    ensures { result.0 ≡ returning_state (class_of sheet.now) (chosen (cells_of cells) k) }
+pub fn returning_in(sheet: Sheet, cells: Cells, k: u32) -> OwnState
+    requires { (cells.count ≤ 20) × AllSmall cells }
+    ensures { result.0 ≡ returning_state (class_of sheet.entry.bytes.now) (chosen (cells_of cells) k) }
 {
     let sets = spread(cells, k);
     let mut list = [0u8; 40];
     let n = write_list(cells, k, &mut list);
-    smallest_returning(tabulate(sheet, p, &list[0..n], sets), state_count(sheet, p))
+    let crew = Crew {
+        list: &list[0..n],
+        sets,
+    };
+    smallest_returning(tabulate(sheet, crew), sheet.state_count())
 }

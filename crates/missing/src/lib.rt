@@ -4,21 +4,18 @@
 
 ghost use Rattle.std.specs.Prelude.{◌≡◌, ◌+◌, ◌<◌, ◌≤◌, ◌/◌, length};
 ghost use Rattle.records.specs.GuardRecords.{guard_record};
-ghost use Rattle.sheet.specs.Verdict.{Stands};
 ghost use Rattle.sheet.specs.Reading.{class_of};
 ghost use Rattle.writings.specs.Missing.{names_right};
 ghost use Rattle.writings.specs.Writings.{named, guards_few};
 ghost use Rattle.missing.specs.Tallies.{joined, record_named, records_named, place_tally, whens_tally, commands_named, statement_tally, statements_tally, class_tally, own_fits, sets_alike};
 
-use accepted::held::{ACTIONS, CLASSES, GUARDS, STATEMENTS, WHENS};
-use accepted::readers::{body_of, state_count};
+use accepted::held::{ACTIONS, CLASSES, GUARDS, STATEMENTS, WHENS, Sheet};
 use bodies::clauses::{action_command, guard_place, name_set};
 use bodies::statements::{StatementRecord, statement_record};
 use lent::{bits_named, list_right, lists_right, record_right};
 use lists::{class_set, record_count};
 use records::guards::{GuardRecord, guard_end, guard_record};
 use records::words::record_at;
-use sheet::judging::Places;
 
 // Whether no name is missing, and how many guard records there are.
 #[derive(Clone, Copy)]
@@ -153,14 +150,13 @@ fn statements_tally(statements: &[u8], g: &[u8], names: usize, commands: usize) 
 }
 
 // The class of an accepted sheet, where there are that many names and commands.
-fn class_tally(sheet: &[u8], p: Places, names: usize, commands: usize) -> Tally
-    requires { Stands sheet.now p }
-    ensures { result ≡ class_tally names commands (class_of sheet.now) }
+fn class_tally(sheet: Sheet, names: usize, commands: usize) -> Tally
+    ensures { result ≡ class_tally names commands (class_of sheet.entry.bytes.now) }
 {
-    let guards = body_of(sheet, p, GUARDS);
-    let whens = whens_tally(body_of(sheet, p, WHENS), guards, names);
-    let heads = commands_named(body_of(sheet, p, ACTIONS), commands);
-    let parts = statements_tally(body_of(sheet, p, STATEMENTS), guards, names, commands);
+    let guards = sheet.body(GUARDS);
+    let whens = whens_tally(sheet.body(WHENS), guards, names);
+    let heads = commands_named(sheet.body(ACTIONS), commands);
+    let parts = statements_tally(sheet.body(STATEMENTS), guards, names, commands);
     Tally {
         named: whens.named & (heads & parts.named),
         count: whens.count + parts.count,
@@ -199,30 +195,27 @@ fn sets_alike(classes: &[u8], sets: &[u8]) -> bool
 
 // No refusal 17: the own name, the table and the lists are right and the sheet's, and no name is missing that is to be written.
 pub fn names_right(
-    sheet: &[u8],
-    p: Places,
+    sheet: Sheet,
     own_name: &[u8],
     own_states: &[u8],
     names: &[u8],
     commands: &[u8],
     classes: &[u8],
 ) -> bool
-    requires { Stands sheet.now p }
-    ensures { result ≡ names_right (named own_name.now own_states.now names.now commands.now classes.now) (class_of sheet.now) }
+    ensures { result ≡ names_right (named own_name.now own_states.now names.now commands.now classes.now) (class_of sheet.entry.bytes.now) }
 {
-    let own = own_right(own_name, own_states, state_count(sheet, p));
+    let own = own_right(own_name, own_states, sheet.state_count());
     let right = lists_right(names, commands, classes);
-    let alike = sets_alike(classes, body_of(sheet, p, CLASSES));
+    let alike = sets_alike(classes, sheet.body(CLASSES));
     let n = names.len() / 32;
     let m = commands.len() / 32;
-    let tally = class_tally(sheet, p, n, m);
+    let tally = class_tally(sheet, n, m);
     own & ((right & (((n <= 32) & (m <= 64)) & alike)) & tally.named)
 }
 
 // No refusal 19: at most 1,024 guard records are to be written, each as often as it is used.
-pub fn guards_few(sheet: &[u8], p: Places) -> bool
-    requires { Stands sheet.now p }
-    ensures { result ≡ guards_few (class_of sheet.now) }
+pub fn guards_few(sheet: Sheet) -> bool
+    ensures { result ≡ guards_few (class_of sheet.entry.bytes.now) }
 {
-    class_tally(sheet, p, 0, 0).count <= 1024
+    class_tally(sheet, 0, 0).count <= 1024
 }

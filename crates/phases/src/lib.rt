@@ -7,17 +7,13 @@ ghost use Rattle.std.specs.Prelude.{◌≡◌, ◌+◌, ◌<◌};
 ghost use Rattle.records.specs.Bytes.{in_fours};
 ghost use Rattle.bodies.specs.Clauses.{first_action, action_count, action_command};
 ghost use Rattle.sheet.specs.Contents.{body};
-ghost use Rattle.sheet.specs.Verdict.{Stands};
-ghost use Rattle.running.specs.Running.{Runnable};
 ghost use Rattle.phases.specs.Phases.{RunsDo, Turns, Walks, Phases};
 
-use accepted::held::ACTIONS;
-use accepted::readers::{body_of, clauses_of, state_count};
+use accepted::held::{ACTIONS, Sheet};
 use bodies::clauses::{ACTION_CLAUSES, action_command};
 use model::{Ending, OwnState, Phase, Referrer, Refusal};
 use node::probing::probe;
-use running::run_action;
-use sheet::judging::Places;
+use running::{Crew, run_action};
 
 // One turn: the phase ends, or the node moves.
 #[derive(Clone, Copy)]
@@ -34,52 +30,45 @@ pub struct Turned {
 }
 
 // The command of action clause a of state q.
-fn command_of(sheet: &[u8], p: Places, q: OwnState, a: u8) -> u8
-    requires { Stands sheet.now p }
-    ensures { result ≡ action_command (body sheet.now 4) (first_action (body sheet.now 1) q.0 + a) }
+fn command_of(sheet: Sheet, q: OwnState, a: u8) -> u8
+    ensures { result ≡ action_command (body sheet.entry.bytes.now 4) (first_action (body sheet.entry.bytes.now 1) q.0 + a) }
 {
-    let clauses = clauses_of(sheet, p, q, ACTION_CLAUSES);
-    action_command(body_of(sheet, p, ACTIONS), clauses.first + (a as usize))
+    let clauses = sheet.clauses_of(q, ACTION_CLAUSES);
+    action_command(sheet.body(ACTIONS), clauses.first + (a as usize))
 }
 
 // A DO runs its clause at once: a move, if that reaches a move_to; else the phase ends there.
 fn run_do(
-    sheet: &[u8],
-    p: Places,
-    list: &[u8],
-    sets: [u32; 8],
+    sheet: Sheet,
+    crew: Crew,
     q: OwnState,
     a: u8,
     out: &mut [u8],
     at: usize,
 ) -> Turned
-    requires stands { Stands sheet.now p × Runnable sets list.now }
-    requires a_bound { (a < action_count (body sheet.now 1) q.0) × (at < 900000000000) }
-    ensures { RunsDo sheet.now list.now q.0 a out.old out.new at result }
+    requires { (a < action_count (body sheet.bytes.now 1) q.0) × (at < 900000000000) }
+    ensures { RunsDo sheet.entry.bytes.now crew.entry.list.now q.0 a out.old out.new at result }
 {
-    let ran = run_action(sheet, p, list, sets, q, a as usize, out, at);
+    let ran = run_action(sheet, crew, q, a as usize, out, at);
     let turn = match ran.moved {
         Some(to) => Turn::Moves(to),
-        None => Turn::Stops(Ending::ByDo(command_of(sheet, p, q, a))),
+        None => Turn::Stops(Ending::ByDo(command_of(sheet, q, a))),
     };
     Turned { turn, at: ran.at }
 }
 
 // What follows from the probe of state q; what it sends is written from a place on.
 pub fn turn_from(
-    sheet: &[u8],
-    p: Places,
-    list: &[u8],
-    sets: [u32; 8],
+    sheet: Sheet,
+    crew: Crew,
     q: OwnState,
     out: &mut [u8],
     at: usize,
 ) -> Turned
-    requires stands { Stands sheet.now p × Runnable sets list.now }
-    requires at_bound { at < 900000000000 }
-    ensures { Turns sheet.now list.now q.0 out.old out.new at result }
+    requires { at < 900000000000 }
+    ensures { Turns sheet.entry.bytes.now crew.entry.list.now q.0 out.old out.new at result }
 {
-    let Some((_, referrer)) = probe(sheet, p, q, sets) else {
+    let Some((_, referrer)) = probe(sheet, q, crew.sets) else {
         return Turned {
             turn: Turn::Stops(Ending::ByNone),
             at,
@@ -90,7 +79,7 @@ pub fn turn_from(
             turn: Turn::Moves(t),
             at,
         },
-        Referrer::Do(a) => run_do(sheet, p, list, sets, q, a, out, at),
+        Referrer::Do(a) => run_do(sheet, crew, q, a, out, at),
         Referrer::Stay => Turned {
             turn: Turn::Stops(Ending::ByStay),
             at,
@@ -99,12 +88,11 @@ pub fn turn_from(
 }
 
 // The phase from state q, with what it sends written from the buffer's front on, as far as it reaches.
-fn walk(sheet: &[u8], p: Places, list: &[u8], sets: [u32; 8], q: OwnState, out: &mut [u8]) -> Phase
-    requires stands { Stands sheet.now p × Runnable sets list.now }
-    requires q_bound { q.0 < in_fours (body sheet.now 1) }
-    ensures { Walks sheet.now list.now q.0 out.old out.new result }
+fn walk(sheet: Sheet, crew: Crew, q: OwnState, out: &mut [u8]) -> Phase
+    requires { q.0 < in_fours (body sheet.bytes.now 1) }
+    ensures { Walks sheet.entry.bytes.now crew.entry.list.now q.0 out.old out.new result }
 {
-    let most = state_count(sheet, p);
+    let most = sheet.state_count();
     let mut to: [Option<OwnState>; 32] = [None; 32];
     let mut at = q;
     let mut end = 0;
@@ -114,7 +102,7 @@ fn walk(sheet: &[u8], p: Places, list: &[u8], sets: [u32; 8], q: OwnState, out: 
             at = t;
             continue;
         }
-        let turned = turn_from(sheet, p, list, sets, at, out, end);
+        let turned = turn_from(sheet, crew, at, out, end);
         match turned.turn {
             Turn::Stops(e) => return Phase::Settled(e, at, made, turned.at),
             Turn::Moves(t) => {
@@ -129,24 +117,21 @@ fn walk(sheet: &[u8], p: Places, list: &[u8], sets: [u32; 8], q: OwnState, out: 
 
 // The when phase from state q: 15 where it settles and its commands need more than the buffer holds, and then nothing is written.
 pub fn when_phase(
-    sheet: &[u8],
-    p: Places,
-    list: &[u8],
-    sets: [u32; 8],
+    sheet: Sheet,
+    crew: Crew,
     q: OwnState,
     out: &mut [u8],
 ) -> Result<Phase, Refusal>
-    requires stands { Stands sheet.now p × Runnable sets list.now }
-    requires q_bound { q.0 < in_fours (body sheet.now 1) }
-    ensures { Phases sheet.now list.now q.0 out.old out.new result }
+    requires { q.0 < in_fours (body sheet.bytes.now 1) }
+    ensures { Phases sheet.entry.bytes.now crew.entry.list.now q.0 out.old out.new result }
 {
-    let counted = walk(sheet, p, list, sets, q, &mut out[..0]);
+    let counted = walk(sheet, crew, q, &mut out[..0]);
     match counted {
         Phase::Settled(_, _, _, needed) => {
             if out.len() < needed {
                 return Err(Refusal::Room);
             }
-            Ok(walk(sheet, p, list, sets, q, &mut out[..needed]))
+            Ok(walk(sheet, crew, q, &mut out[..needed]))
         }
         Phase::Loops(_, _) => Ok(counted),
     }

@@ -10,12 +10,10 @@ ghost use Rattle.bodies.specs.Clauses.{action_count};
 ghost use Rattle.bodies.specs.StatementReaders.{statement_record};
 ghost use Rattle.bodies.specs.declared.statements.StatementRecord.TheVariants.{If};
 ghost use Rattle.sheet.specs.Contents.{body};
-ghost use Rattle.sheet.specs.Verdict.{Stands};
 ghost use Rattle.children.specs.ChildList.{children_of};
 ghost use Rattle.running.specs.Running.{concerned, Counted, Writes, Room, RunsPart, RunsIf, Runnable, RunsAction};
 
-use accepted::held::{ACTIONS, GUARDS, STATEMENTS};
-use accepted::readers::{body_of, clauses_of};
+use accepted::held::{ACTIONS, GUARDS, STATEMENTS, Sheet};
 use bodies::clauses::ACTION_CLAUSES;
 use bodies::statements::{
     Branch, StatementRecord, behind_statement, else_part, statement_record, statements_of,
@@ -24,13 +22,20 @@ use bodies::statements::{
 use model::{ChildClass, OwnState};
 use node::values::guard_true;
 use records::kinds::{Pattern, class_at};
-use sheet::judging::Places;
 
 // What running statements did: the place in the buffer behind the bytes sent, and where the move_to that ended the clause leads, if one did.
 #[derive(Clone, Copy)]
 pub struct Ran {
     pub at: usize,
     pub moved: Option<OwnState>,
+}
+
+// The children of a list, with the name sets that show them. Whoever makes one shows that the sets do, and that the list is short.
+#[derive(Clone, Copy)]
+pub struct Crew<'a> {
+    pub list: &'a [u8],
+    pub sets: [u32; 8],
+    ghost runnable: { Runnable sets list.now },
 }
 
 // A byte at a place of the buffer; past its end nothing is stored.
@@ -126,26 +131,17 @@ fn run_if(
 
 // Runs action clause a of state q: what it sends is written from a place on.
 pub fn run_action(
-    sheet: &[u8],
-    p: Places,
-    list: &[u8],
-    sets: [u32; 8],
+    sheet: Sheet,
+    crew: Crew,
     q: OwnState,
     a: usize,
     out: &mut [u8],
     at: usize,
 ) -> Ran
-    requires stands { Stands sheet.now p × Runnable sets list.now }
-    requires a_bound { (a < action_count (body sheet.now 1) q.0) × (at < 900000000000) }
-    ensures { RunsAction sheet.now list.now q.0 a out.old out.new at result }
+    requires { (a < action_count (body sheet.bytes.now 1) q.0) × (at < 900000000000) }
+    ensures { RunsAction sheet.entry.bytes.now crew.entry.list.now q.0 a out.old out.new at result }
 {
-    let clauses = clauses_of(sheet, p, q, ACTION_CLAUSES);
-    let first = clauses.first;
-    let guards = body_of(sheet, p, GUARDS);
-    let part = statements_of(
-        body_of(sheet, p, ACTIONS),
-        body_of(sheet, p, STATEMENTS),
-        first + a,
-    );
-    run_list(guards, sets, list, part, out, at)
+    let clauses = sheet.clauses_of(q, ACTION_CLAUSES);
+    let part = statements_of(sheet.body(ACTIONS), sheet.body(STATEMENTS), clauses.first + a);
+    run_list(sheet.body(GUARDS), crew.sets, crew.list, part, out, at)
 }

@@ -5,13 +5,13 @@ ghost use Rattle.classfile.specs.Heads.{stretch, head_of};
 ghost use Rattle.classfile.specs.Reads.{Fits, rooms, shown};
 ghost use Rattle.writeclass.specs.Made.{one_class, Replied, text_file, second_file, first_file, opened, Prints, Converted};
 
+use accepted::held::Sheet;
 use crate::reasons::{too_long, wrong_own, wrong_text};
 use classfile::heads::{CLASSES, COMMANDS, NAMES, Used, read_head};
 use model::Refusal;
 use saying::Why;
 use saying::heads::wrong_line;
 use saying::places::in_file;
-use sheet::judging::judge;
 use writing::write_text;
 
 // The longest file.
@@ -37,9 +37,9 @@ fn written(
 ) -> Result<usize, Refusal>
     ensures { Replied sheet.now (named own_name.now own_states.now names.now commands.now classes.now) text.old result text.new }
 {
-    let p = judge(sheet)?;
+    let sheet = Sheet::judged(sheet)?;
     write_text(
-        sheet, p, own_name, own_states, names, commands, classes, text,
+        sheet, own_name, own_states, names, commands, classes, text,
     )
 }
 

@@ -1,10 +1,8 @@
 // What is missing where a class text is refused for its names: a name for a command or for a child state, or the place of a class line
 // whose states are not the sheet's.
 ghost use Rattle.std.specs.Prelude.{◌≤◌, length};
-ghost use Rattle.sheet.specs.Verdict.{Stands};
 
-use accepted::held::{ACTIONS, GUARDS, STATEMENTS, WHENS};
-use accepted::readers::body_of;
+use accepted::held::{ACTIONS, GUARDS, STATEMENTS, WHENS, Sheet};
 use bodies::clauses::{action_command, guard_place, name_set};
 use bodies::statements::{StatementRecord, statement_record};
 use classfile::fields::{Field, Kind, next_field};
@@ -14,7 +12,6 @@ use model::ChildName;
 use records::guards::{GuardRecord, guard_end, guard_record};
 use records::sets::has_name;
 use records::words::{in_eights, in_fours, record_at};
-use sheet::judging::Places;
 use texts::writing::least;
 
 // A number that has no name: a command's, or a child state's.
@@ -104,13 +101,12 @@ fn statements_gap(statements: &[u8], g: &[u8], names: usize, commands: usize) ->
 }
 
 // The first number without a name of an accepted sheet.
-pub fn sheet_gap(sheet: &[u8], p: Places, names: usize, commands: usize) -> Option<Gap>
-    requires { Stands sheet.now p }
+pub fn sheet_gap(sheet: Sheet, names: usize, commands: usize) -> Option<Gap>
 {
-    let guards = body_of(sheet, p, GUARDS);
-    let actions = body_of(sheet, p, ACTIONS);
-    let statements = body_of(sheet, p, STATEMENTS);
-    whens_gap(body_of(sheet, p, WHENS), guards, names)
+    let guards = sheet.body(GUARDS);
+    let actions = sheet.body(ACTIONS);
+    let statements = sheet.body(STATEMENTS);
+    whens_gap(sheet.body(WHENS), guards, names)
         .or_else(|| actions_gap(actions, commands))
         .or_else(|| statements_gap(statements, guards, names, commands))
 }

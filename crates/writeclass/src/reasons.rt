@@ -1,15 +1,12 @@
 // Why there is no class text, by what was found to be wrong. The numbers of the messages are those of the lines in `messages`.
 ghost use Rattle.std.specs.Prelude.{◌≤◌, length};
-ghost use Rattle.sheet.specs.Verdict.{Stands};
 
 use crate::gaps::{Gap, class_name, other_class, sheet_gap};
-use accepted::held::CLASSES;
-use accepted::readers::{body_of, class_count, state_count};
+use accepted::held::{CLASSES, Sheet};
 use classfile::heads::Used;
 use lists::record_count;
 use model::Refusal;
 use saying::{Said, Why, alone, at_word, of_numbers};
-use sheet::judging::{Places, judge};
 
 // The file is too long.
 pub fn too_long() -> Why {
@@ -37,46 +34,42 @@ fn wrong_gap(gap: Option<Gap>) -> Why {
 fn wrong_lists(
     file: &[u8],
     from: usize,
-    sheet: &[u8],
-    p: Places,
+    sheet: Sheet,
     names: usize,
     commands: usize,
     classes: &[u8],
 ) -> Why
-    requires from_in_bounds { from ≤ length file.now }
-    requires stands { Stands sheet.now p }
+    requires { from ≤ length file.now }
 {
-    if let Some(other) = other_class(classes, body_of(sheet, p, CLASSES)) {
+    if let Some(other) = other_class(classes, sheet.body(CLASSES)) {
         let name = class_name(file, from, other);
         return at_word(13, Said::Line, name.start, name.end);
     }
-    wrong_gap(sheet_gap(sheet, p, names, commands))
+    wrong_gap(sheet_gap(sheet, names, commands))
 }
 
 // 17, of an accepted sheet: there are so many own states, names and commands.
 fn wrong_accepted(
     file: &[u8],
     from: usize,
-    sheet: &[u8],
-    p: Places,
+    sheet: Sheet,
     states: usize,
     names: usize,
     commands: usize,
     classes: &[u8],
 ) -> Why
-    requires from_in_bounds { from ≤ length file.now }
-    requires stands { Stands sheet.now p }
+    requires { from ≤ length file.now }
 {
-    let s = state_count(sheet, p);
+    let s = sheet.state_count();
     if states != s {
         return of_numbers(11, states as u64, s as u64);
     }
-    let k = class_count(sheet, p);
+    let k = sheet.class_count();
     let n = record_count(classes, 36);
     if n != k {
         return of_numbers(12, n as u64, k as u64);
     }
-    wrong_lists(file, from, sheet, p, names, commands, classes)
+    wrong_lists(file, from, sheet, names, commands, classes)
 }
 
 // 17: a name is missing, or one too many.
@@ -91,9 +84,8 @@ fn wrong_names(
 ) -> Why
     requires { from ≤ length file.now }
 {
-    let verdict = judge(sheet);
-    match verdict {
-        Ok(p) => wrong_accepted(file, from, sheet, p, states, names, commands, classes),
+    match Sheet::judged(sheet) {
+        Ok(sheet) => wrong_accepted(file, from, sheet, states, names, commands, classes),
         Err(_) => alone(16),
     }
 }

@@ -2,19 +2,17 @@
 #![tactic(auto)]
 
 ghost use Rattle.sheet.specs.Reading.{class_of};
-ghost use Rattle.sheet.specs.Verdict.{Stands};
 ghost use Rattle.writings.specs.Writings.{named};
 ghost use Rattle.writing.specs.Writing.{Writes, WritesText};
 
+use accepted::held::Sheet;
 use classtext::put_text;
 use missing::{guards_few, names_right};
 use model::Refusal;
-use sheet::judging::Places;
 
 // The text, or 15. It is written twice: to no buffer, which tells how long it is, and to the lent one.
 fn write_within(
-    sheet: &[u8],
-    p: Places,
+    sheet: Sheet,
     own_name: &[u8],
     own_states: &[u8],
     names: &[u8],
@@ -22,26 +20,24 @@ fn write_within(
     classes: &[u8],
     out: &mut [u8],
 ) -> Result<usize, Refusal>
-    requires { Stands sheet.now p }
-    ensures { WritesText (named own_name.now own_states.now names.now commands.now classes.now) (class_of sheet.now) out.old out.new result }
+    ensures { WritesText (named own_name.now own_states.now names.now commands.now classes.now) (class_of sheet.entry.bytes.now) out.old out.new result }
 {
     let mut none = [0u8; 1];
     let needed = put_text(
-        sheet, p, own_name, own_states, names, commands, classes, &mut none, 0,
+        sheet, own_name, own_states, names, commands, classes, &mut none, 0,
     );
     if out.len() < needed {
         return Err(Refusal::Room);
     }
     let length = put_text(
-        sheet, p, own_name, own_states, names, commands, classes, out, 0,
+        sheet, own_name, own_states, names, commands, classes, out, 0,
     );
     Ok(length)
 }
 
 // 17 for the names, 19 for the guard records that would be written, then the text or 15.
 pub fn write_text(
-    sheet: &[u8],
-    p: Places,
+    sheet: Sheet,
     own_name: &[u8],
     own_states: &[u8],
     names: &[u8],
@@ -49,16 +45,15 @@ pub fn write_text(
     classes: &[u8],
     out: &mut [u8],
 ) -> Result<usize, Refusal>
-    requires { Stands sheet.now p }
-    ensures { Writes (named own_name.now own_states.now names.now commands.now classes.now) (class_of sheet.now) out.old out.new result }
+    ensures { Writes (named own_name.now own_states.now names.now commands.now classes.now) (class_of sheet.entry.bytes.now) out.old out.new result }
 {
-    if !names_right(sheet, p, own_name, own_states, names, commands, classes) {
+    if !names_right(sheet, own_name, own_states, names, commands, classes) {
         return Err(Refusal::Naming);
     }
-    if !guards_few(sheet, p) {
+    if !guards_few(sheet) {
         return Err(Refusal::WrittenGuards);
     }
     write_within(
-        sheet, p, own_name, own_states, names, commands, classes, out,
+        sheet, own_name, own_states, names, commands, classes, out,
     )
 }

@@ -7,12 +7,9 @@ use Rattle.bargewicker.specs.Questions.{probe_in, placed, reply}
 use Rattle.bargewicker.proofs.PromiseLaws.{refused_so}
 use Rattle.bargewicker.proofs.probe.Goals as goal
 
-pub probe_in-requires : goal.probe_in-requires
-probe_in-requires c = stands _ _ c.judge.ensures _ c.in_ok-p.was
-
-pub returns-in_err-p : goal.returns-in_err-p
+pub returns-in_err-sheet : goal.returns-in_err-sheet
 unfolding reply placed
-returns-in_err-p c =
+returns-in_err-sheet c =
     let a = c.args in
     let p = err_from_is_err_and c.from_residual.result c.from_residual.ensures.1 in
-    rw (p.1, p.2) (refused_so (probe_in a.sheet.now a.children.now a.state) _ (refused_too _ _ c.judge.ensures _ c.in_err-p.was _) _ refl)
+    rw (p.1, p.2) (refused_so (probe_in a.sheet.now a.children.now a.state) _ (refused_too _ _ c.in_err-sheet.ensures.refused _ refl _) _ refl)

@@ -15,12 +15,12 @@ unfolding reply
 returns-in_err-place c =
     let a = c.args in
     let p = err_from_is_err_and c.from_residual.result c.from_residual.ensures.1 in
-    rw (p.1, p.2) (refused_so (probe_in a.sheet.now a.children.now a.state) _
-    (not_fitting _ _ c.requires _ _ _ c.place.ensures _ c.in_err-place.was _) _ refl)
+    rw (p.1, p.2) (refused_so (probe_in a.sheet.bytes.now a.children.now a.state) _
+    (not_fitting _ _ c.args.sheet.stands _ _ _ c.place.ensures _ c.in_err-place.was _) _ refl)
 
 pub returns : goal.returns
 returns c =
-    let s = c.requires in
+    let s = c.args.sheet.stands in
     let e = c.place.ensures in
     let t = c.in_ok-place.was in
     let n : length c.occupy.result ≡ 8 = omega arith in

@@ -9,11 +9,11 @@ use Rattle.classtext.proofs.put_actions.Goals as goal
 pub loop-i-init : goal.loop-i-init
 loop-i-init c = going_none _ _ _ (omega arith)
 
-pub put_action-end-requires-clause-a_bound : goal.put_action-end-requires-clause-a_bound
-put_action-end-requires-clause-a_bound c =
-    let x = c.requires in
+pub put_action-end-requires : goal.put_action-end-requires
+put_action-end-requires c =
+    let x = c.args.sheet.stands in
     let y = c.clauses_of-clauses.ensures in
-    action_inside _ _ x.stands _ _ _ _ x.q_bound y.first_is y.count_is c.loop-i-test.true
+    action_inside _ _ x _ _ _ _ c.requires y.first_is y.count_is c.loop-i-test.true
 
 pub loop-i-preserved : goal.loop-i-preserved
 loop-i-preserved c = going_on c.loop-i.invariant (one_less _ _ _ _ _ c.loop-i-test.true) c.put_action-end.ensures
@@ -21,5 +21,5 @@ loop-i-preserved c = going_on c.loop-i.invariant (one_less _ _ _ _ _ c.loop-i-te
 pub returns : goal.returns
 returns c =
     let x = c.args in
-    let e = actions_start x.sheet.now x.q.0 x.own.now (lent x.names.now x.commands.now x.classes.now) _ _ c.clauses_of-clauses.ensures.first_is c.clauses_of-clauses.ensures.count_is in
+    let e = actions_start x.sheet.bytes.now x.q.0 x.own.now (lent x.names.now x.commands.now x.classes.now) _ _ c.clauses_of-clauses.ensures.first_is c.clauses_of-clauses.ensures.count_is in
     rw e (going_end c.loop-i.invariant (none_left _ _ _ _ _ c.loop-i-test.false) (omega (arith, c.well_formed)))

@@ -12,5 +12,5 @@ use Rattle.classtext.proofs.put_actions.Given as goal
 
 abbrev pub invariant-loop-i : goal.invariant-loop-i
 invariant-loop-i l =
-    Going (gathered (action_text l.own (lent l.names l.commands l.classes)) (listed (l.first + 0) (l.n - 0) (action_in (bodies l.sheet)))) l.initial.out l.at
-    (gathered (action_text l.own (lent l.names l.commands l.classes)) (listed (l.first + l.i) (l.n - l.i) (action_in (bodies l.sheet)))) l.out l.end
+    Going (gathered (action_text l.own (lent l.names l.commands l.classes)) (listed (l.first + 0) (l.n - 0) (action_in (bodies l.sheet.bytes.now)))) l.initial.out l.at
+    (gathered (action_text l.own (lent l.names l.commands l.classes)) (listed (l.first + l.i) (l.n - l.i) (action_in (bodies l.sheet.bytes.now)))) l.out l.end

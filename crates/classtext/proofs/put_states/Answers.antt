@@ -9,7 +9,7 @@ use Rattle.classtext.proofs.put_states.Goals as goal
 pub loop-q-init : goal.loop-q-init
 loop-q-init c =
     let x = c.args in
-    let e = states_start x.sheet.now x.own.now (lent x.names.now x.commands.now x.classes.now) _ c.state_count-n.ensures.0 in
+    let e = states_start x.sheet.bytes.now x.own.now (lent x.names.now x.commands.now x.classes.now) _ c.state_count-n.ensures.0 in
     rw (← e) (going_none _ _ _ (omega arith))
 
 pub loop-q-preserved : goal.loop-q-preserved

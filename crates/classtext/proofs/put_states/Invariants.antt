@@ -11,5 +11,5 @@ use Rattle.classtext.proofs.put_states.Given as goal
 
 abbrev pub invariant-loop-q : goal.invariant-loop-q
 invariant-loop-q l =
-    Going (states_text l.own (lent l.names l.commands l.classes) 0 (class_of l.sheet).states) l.initial.out l.at
-    (states_text l.own (lent l.names l.commands l.classes) l.q (listed l.q (l.n - l.q) (state_in (bodies l.sheet)))) l.out l.end
+    Going (states_text l.own (lent l.names l.commands l.classes) 0 (class_of l.sheet.bytes.now).states) l.initial.out l.at
+    (states_text l.own (lent l.names l.commands l.classes) l.q (listed l.q (l.n - l.q) (state_in (bodies l.sheet.bytes.now)))) l.out l.end

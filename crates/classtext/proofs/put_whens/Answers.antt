@@ -9,14 +9,13 @@ use Rattle.classtext.proofs.put_whens.Goals as goal
 pub loop-i-init : goal.loop-i-init
 loop-i-init c =
     let x = c.args in
-    let e = whens_start x.sheet.now x.q.0 x.own.now (lent x.names.now x.commands.now x.classes.now) _ _ c.clauses_of-clauses.ensures.first_is c.clauses_of-clauses.ensures.count_is in
+    let e = whens_start x.sheet.bytes.now x.q.0 x.own.now (lent x.names.now x.commands.now x.classes.now) _ _ c.clauses_of-clauses.ensures.first_is c.clauses_of-clauses.ensures.count_is in
     rw (← e) (going_none _ _ _ (omega arith))
 
-pub put_when-end-requires-clause-when_of : goal.put_when-end-requires-clause-when_of
-put_when-end-requires-clause-when_of c =
-    let x = c.requires in
+pub put_when-end-requires : goal.put_when-end-requires
+put_when-end-requires c =
     let y = c.clauses_of-clauses.ensures in
-    when_of_state _ _ _ _ _ x.q_bound y.first_is y.count_is c.loop-i-test.true
+    when_of_state _ _ _ _ _ c.requires y.first_is y.count_is c.loop-i-test.true
 
 pub loop-i-preserved : goal.loop-i-preserved
 loop-i-preserved c = going_on c.loop-i.invariant (one_less _ _ _ _ _ c.loop-i-test.true) c.put_when-end.ensures

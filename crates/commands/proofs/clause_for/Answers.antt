@@ -8,10 +8,10 @@ pub loop-i-init : goal.loop-i-init
 loop-i-init c = λ j l. absurd (omega arith)
 
 pub loop-i-preserved : goal.loop-i-preserved
-loop-i-preserved c = passed_more c.body_of-actions.result.now c.clauses_of-clauses.result.first _ _ _ c.loop-i.invariant c.action_command.ensures c.if-action_command-command.false
+loop-i-preserved c = passed_more c.body-actions.result.now c.clauses_of-clauses.result.first _ _ _ c.loop-i.invariant c.action_command.ensures c.if-action_command-command.false
 
 pub returns-then-action_command-command : goal.returns-then-action_command-command
-returns-then-action_command-command c = search_finds _ _ _ _ _ _ _ c.body_of-actions.ensures c.clauses_of-clauses.ensures.first_is c.clauses_of-clauses.ensures.count_is c.loop-i.invariant _ c.loop-i-test.true c.action_command.ensures c.if-action_command-command.true
+returns-then-action_command-command c = search_finds _ _ _ _ _ _ _ c.body-actions.ensures c.clauses_of-clauses.ensures.first_is c.clauses_of-clauses.ensures.count_is c.loop-i.invariant _ c.loop-i-test.true c.action_command.ensures c.if-action_command-command.true
 
 pub returns : goal.returns
-returns c = search_ends _ _ _ _ _ _ _ c.body_of-actions.ensures c.clauses_of-clauses.ensures.first_is c.clauses_of-clauses.ensures.count_is c.loop-i.invariant c.loop-i-test.false
+returns c = search_ends _ _ _ _ _ _ _ c.body-actions.ensures c.clauses_of-clauses.ensures.first_is c.clauses_of-clauses.ensures.count_is c.loop-i.invariant c.loop-i-test.false

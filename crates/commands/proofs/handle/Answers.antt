@@ -11,11 +11,8 @@ use Rattle.commands.proofs.handle.Goals as goal
 pub returns-then-out-own : goal.returns-then-out-own
 returns-then-out-own c = short_told _ _ _ _ _ _ _ c.run_command-counted.ensures _ _ (none_before c.run_command-counted.new.out _ c.run_command-counted.auto.out) _ c.own_bytes-own.ensures c.if-out-own.true
 
-pub when_phase-requires-clause-stands : goal.when_phase-requires-clause-stands
-when_phase-requires-clause-stands c = c.requires.stands
-
-pub when_phase-requires-clause-q_bound : goal.when_phase-requires-clause-q_bound
-when_phase-requires-clause-q_bound c = left_inside c.args.sheet.now _ _ _ c.requires.q_bound _ _ _ c.run_command-counted.ensures _ c.left_by.ensures
+pub when_phase-requires : goal.when_phase-requires
+when_phase-requires c = left_inside c.args.sheet.bytes.now _ _ _ c.requires _ _ _ c.run_command-counted.ensures _ c.left_by.ensures
 
 pub returns-in_err-phase : goal.returns-in_err-phase
 returns-in_err-phase c =

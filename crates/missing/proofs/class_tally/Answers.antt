@@ -6,18 +6,18 @@ use Rattle.missing.proofs.class_tally.Goals as goal
 
 pub whens_tally-whens-requires : goal.whens_tally-whens-requires
 whens_tally-whens-requires c =
-    let s = c.requires in
-    (body_short _ _ s 2 (omega arith) _ c.body_of.ensures, body_short _ _ s 3 (omega arith) _ c.body_of-guards.ensures)
+    let s = c.args.sheet.stands in
+    (body_short _ _ s 2 (omega arith) _ c.body.ensures, body_short _ _ s 3 (omega arith) _ c.body-guards.ensures)
 
 pub commands_named-heads-requires : goal.commands_named-heads-requires
-commands_named-heads-requires c = body_short _ _ c.requires 4 (omega arith) _ c.body_of-2.ensures
+commands_named-heads-requires c = body_short _ _ c.args.sheet.stands 4 (omega arith) _ c.body-2.ensures
 
 pub statements_tally-parts-requires : goal.statements_tally-parts-requires
 statements_tally-parts-requires c =
-    let s = c.requires in
-    (body_short _ _ s 5 (omega arith) _ c.body_of-3.ensures, body_short _ _ s 3 (omega arith) _ c.body_of-guards.ensures)
+    let s = c.args.sheet.stands in
+    (body_short _ _ s 5 (omega arith) _ c.body-3.ensures, body_short _ _ s 3 (omega arith) _ c.body-guards.ensures)
 
 pub returns : goal.returns
 returns c =
-    class_told _ _ c.requires _ _ _ _ _ _ c.body_of-guards.ensures c.body_of.ensures c.body_of-2.ensures c.body_of-3.ensures
+    class_told _ _ c.args.sheet.stands _ _ _ _ _ _ c.body-guards.ensures c.body.ensures c.body-2.ensures c.body-3.ensures
     c.whens_tally-whens.result c.commands_named-heads.result c.statements_tally-parts.result c.whens_tally-whens.ensures.0 c.commands_named-heads.ensures c.statements_tally-parts.ensures.0

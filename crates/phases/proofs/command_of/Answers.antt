@@ -4,4 +4,4 @@ use Rattle.phases.proofs.TurnLaws.{command_read}
 use Rattle.phases.proofs.command_of.Goals as goal
 
 pub returns : goal.returns
-returns c = command_read _ _ _ _ _ _ c.clauses_of-clauses.ensures c.body_of.ensures c.action_command.ensures
+returns c = command_read _ _ _ _ _ _ c.clauses_of-clauses.ensures c.body.ensures c.action_command.ensures

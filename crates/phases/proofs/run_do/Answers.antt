@@ -11,4 +11,4 @@ returns-in-Some c = let r = c.run_action-ran.ensures in do_moves _ _ _ _ _ _ r.w
 pub returns-in-None : goal.returns-in-None
 returns-in-None c =
     do_stops _ _ _ _ _ _ c.run_action-ran.ensures.writes c.run_action-ran.ensures.moved _ c.in-None.is
-    (c.command_of.ensures ∙ sym (command_told c.args.sheet.now (accepted_right _ c.requires.stands.0.accepted) c.args.q.0 c.args.a c.requires.a_bound.0))
+    (c.command_of.ensures ∙ sym (command_told c.args.sheet.bytes.now (accepted_right _ c.args.sheet.stands.accepted) c.args.q.0 c.args.a c.requires.0))

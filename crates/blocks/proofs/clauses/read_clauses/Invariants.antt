@@ -7,4 +7,4 @@ use Rattle.blocks.specs.ClauseTables.{WhensOf}
 use Rattle.blocks.proofs.clauses.read_clauses.Given as goal
 
 abbrev pub invariant-loop-q : goal.invariant-loop-q
-invariant-loop-q l = (l.q ≤ l.states) × WhensOf (body l.sheet 1) l.whens l.q l.places l.aims
+invariant-loop-q l = (l.q ≤ l.states) × WhensOf (body l.sheet.bytes.now 1) l.whens l.q l.places l.aims

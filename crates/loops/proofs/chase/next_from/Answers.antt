@@ -4,7 +4,7 @@ use Rattle.loops.proofs.TableLaws.{moves_byte, stops_byte}
 use Rattle.loops.proofs.chase.next_from.Goals as goal
 
 pub returns-in-Moves : goal.returns-in-Moves
-returns-in-Moves c = moves_byte _ _ c.requires.0 _ _ _ _ _ _ c.turn_from-turned.ensures (λ i. (c.type_inv.sheet i).fits) _ c.in-Moves.is
+returns-in-Moves c = moves_byte _ _ c.args.sheet.stands _ _ _ _ _ _ c.turn_from-turned.ensures c.args.sheet.small _ c.in-Moves.is
 
 pub returns-in-Stops : goal.returns-in-Stops
-returns-in-Stops c = stops_byte _ _ c.requires.0 _ _ _ _ _ _ c.turn_from-turned.ensures _ c.in-Stops.is
+returns-in-Stops c = stops_byte _ _ c.args.sheet.stands _ _ _ _ _ _ c.turn_from-turned.ensures _ c.in-Stops.is

@@ -12,4 +12,4 @@ pub loop-q-preserved : goal.loop-q-preserved
 loop-q-preserved c = (search rules, tabulating_more _ _ _ _ _ c.loop-q.invariant.1 (omega arith) c.next_from.ensures)
 
 pub returns : goal.returns
-returns c = tabulating_end _ _ _ c.requires.0 _ _ _ c.loop-q.invariant.1 c.state_count-q-end.ensures.0 (omega arith)
+returns c = tabulating_end _ _ _ c.args.sheet.stands _ _ _ c.loop-q.invariant.1 c.state_count-q-end.ensures.0 (omega arith)

@@ -5,4 +5,4 @@ use Rattle.loops.proofs.TableLaws.{Tabulating}
 use Rattle.loops.proofs.chase.tabulate.Given as goal
 
 abbrev pub invariant-loop-q : goal.invariant-loop-q
-invariant-loop-q l = (l.q ≤ l.q-end) × Tabulating l.sheet l.list l.to l.q
+invariant-loop-q l = (l.q ≤ l.q-end) × Tabulating l.sheet.bytes.now l.crew.list.now l.to l.q

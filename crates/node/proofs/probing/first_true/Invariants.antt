@@ -6,4 +6,4 @@ use Rattle.node.proofs.ProbeLaws.{NoneBefore}
 use Rattle.node.proofs.probing.first_true.Given as goal
 
 abbrev pub invariant-loop-i : goal.invariant-loop-i
-invariant-loop-i l = (l.hit ≡ None) × NoneBefore l.sheet l.sets l.first l.i
+invariant-loop-i l = (l.hit ≡ None) × NoneBefore l.sheet.bytes.now l.sets l.first l.i
