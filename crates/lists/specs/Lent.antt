@@ -5,10 +5,15 @@ use Rattle.model.specs.Words.{choose, every, listed}
 use Rattle.records.specs.Bytes.{u32}
 use Rattle.grammar.specs.Words.{position}
 use Rattle.naming.specs.NameLists.{Lists, characters}
+use Rattle.lists.specs.declared.Lists as Code
 
 -- the three lists, as they are lent
 abbrev pub lent : List ℕ → List ℕ → List ℕ → Lists
 lent names commands classes = record { names = names; commands = commands; classes = classes }
+
+-- the three lists that the code's struct holds
+abbrev pub lists_of : Code.Lists → Lists
+lists_of l = lent l.names.now l.commands.now l.classes.now
 
 -- the name record of record i of a list of records of that many bytes
 abbrev pub name_record : ℕ → List ℕ → ℕ → List ℕ

@@ -10,6 +10,14 @@ ghost use Rattle.lists.specs.Lent.{name_record, found_from, sets_in, all_zero, C
 use kinds::is_same;
 use records::words::u32_at;
 
+// The three lists, as a caller lends them: child state names, commands, child classes with their name sets.
+#[derive(Clone, Copy)]
+pub struct Lists<'a> {
+    pub names: &'a [u8],
+    pub commands: &'a [u8],
+    pub classes: &'a [u8],
+}
+
 // Every byte of a record from a place on is zero.
 fn zeros_from(bytes: &[u8], at: usize) -> bool
     requires { at ≤ length bytes.now }
