@@ -10,6 +10,7 @@ ghost use Rattle.records.specs.Records.{kind_as, operator_as};
 ghost use Rattle.writings.specs.Layout.{quantifier_text, side_text, guard_text};
 ghost use Rattle.guardtext.specs.GuardTexts.{opening, between, Writes, PutsGuard};
 
+use lists::Lists;
 use pen::put_bytes;
 use records::guards::{GuardRecord, Kind, Operator, guard_record};
 use records::kinds::Pattern;
@@ -39,19 +40,18 @@ fn side(kind: Kind) -> &'static [u8]
 fn put_atom(
     out: &mut [u8],
     at: usize,
-    names: &[u8],
-    classes: &[u8],
+    lists: Lists,
     kind: Kind,
     pattern: Pattern,
     set: u32,
 ) -> usize
-    ensures { Puts (guard_text names.now classes.now (atom (kind_as kind) (pattern_as pattern) set)) out.old at out.new result }
+    ensures { Puts (guard_text lists.entry.names.now lists.entry.classes.now (atom (kind_as kind) (pattern_as pattern) set)) out.old at out.new result }
 {
     let a = put_bytes(out, at, b"( ");
     let b = put_bytes(out, a, quantifier(kind));
-    let c = put_kin(out, b, classes, pattern);
+    let c = put_kin(out, b, lists.classes, pattern);
     let d = put_bytes(out, c, side(kind));
-    let e = put_set(out, d, names, set);
+    let e = put_set(out, d, lists.names, set);
     put_bytes(out, e, b" )")
 }
 
@@ -83,20 +83,19 @@ fn put_from(
     g: &[u8],
     from: usize,
     depth: usize,
-    names: &[u8],
-    classes: &[u8],
+    lists: Lists,
     out: &mut [u8],
     at: usize,
 ) -> Option<(usize, usize)>
-    ensures { Writes names.now classes.now (guard_at depth g.now from) out.old at out.new result }
+    ensures { Writes lists.entry.names.now lists.entry.classes.now (guard_at depth g.now from) out.old at out.new result }
 {
     match guard_record(g, from) {
         GuardRecord::Atom(kind, pattern, set) => Some((
-            put_atom(out, at, names, classes, kind, pattern, set),
+            put_atom(out, at, lists, kind, pattern, set),
             from + 1,
         )),
         GuardRecord::Operator(operator) => {
-            put_operator(g, from + 1, depth, operator, names, classes, out, at)
+            put_operator(g, from + 1, depth, operator, lists, out, at)
         }
         GuardRecord::Unknown => None,
     }
@@ -109,38 +108,30 @@ fn put_operator(
     from: usize,
     depth: usize,
     operator: Operator,
-    names: &[u8],
-    classes: &[u8],
+    lists: Lists,
     out: &mut [u8],
     at: usize,
 ) -> Option<(usize, usize)>
-    ensures { Writes names.now classes.now (joined (operands depth g.now) from (operator_as operator)) out.old at out.new result }
+    ensures { Writes lists.entry.names.now lists.entry.classes.now (joined (operands depth g.now) from (operator_as operator)) out.old at out.new result }
 {
     if depth == 0 {
         return None;
     }
     let a = put_bytes(out, at, opening(operator));
-    let (b, next) = put_from(g, from, depth - 1, names, classes, out, a)?;
+    let (b, next) = put_from(g, from, depth - 1, lists, out, a)?;
     if let Operator::Opposite = operator {
         return Some((put_bytes(out, b, b" )"), next));
     }
     let c = put_bytes(out, b, between(operator));
-    let (d, end) = put_from(g, next, depth - 1, names, classes, out, c)?;
+    let (d, end) = put_from(g, next, depth - 1, lists, out, c)?;
     Some((put_bytes(out, d, b" )"), end))
 }
 
 // The text of the guard that begins at a place, and the place behind it. At most 16 operators lie on one path.
-pub fn put_guard(
-    g: &[u8],
-    place: usize,
-    names: &[u8],
-    classes: &[u8],
-    out: &mut [u8],
-    at: usize,
-) -> usize
-    ensures { PutsGuard g.now place names.now classes.now out.old at out.new result }
+pub fn put_guard(g: &[u8], place: usize, lists: Lists, out: &mut [u8], at: usize) -> usize
+    ensures { PutsGuard g.now place lists.entry.names.now lists.entry.classes.now out.old at out.new result }
 {
-    match put_from(g, place, 16, names, classes, out, at) {
+    match put_from(g, place, 16, lists, out, at) {
         Some((end, _)) => end,
         None => at,
     }
