@@ -6,7 +6,7 @@ ghost use Rattle.records.specs.Patterns.{pattern_as};
 ghost use Rattle.bodies.specs.StatementReaders.{statement_record};
 ghost use Rattle.bodies.specs.declared.statements.StatementRecord.TheVariants.{If};
 ghost use Rattle.pen.specs.Writing.{Puts};
-ghost use Rattle.lists.specs.Lent.{lent};
+ghost use Rattle.lists.specs.Lent.{lists_of};
 ghost use Rattle.writings.specs.Layout.{line};
 ghost use Rattle.bodytext.specs.BodyText.{do_line, move_line, PutsHead, PutsPart, PutsIf, Levelled};
 
@@ -14,6 +14,7 @@ use bodies::statements::{
     Branch, StatementRecord, behind_statement, else_part, statement_record, then_part,
 };
 use guardtext::put_guard;
+use lists::Lists;
 use model::OwnState;
 use pen::put_bytes;
 use records::kinds::Pattern;
@@ -33,18 +34,17 @@ fn put_do(
     out: &mut [u8],
     at: usize,
     level: usize,
-    commands: &[u8],
-    classes: &[u8],
+    lists: Lists,
     command: u8,
     pattern: Pattern,
 ) -> usize
-    ensures { Puts (do_line level commands.now classes.now command (pattern_as pattern)) out.old at out.new result }
+    ensures { Puts (do_line level lists.entry.commands.now lists.entry.classes.now command (pattern_as pattern)) out.old at out.new result }
 {
     let a = put_indent(out, at, level);
     let b = put_bytes(out, a, b"do ");
-    let c = put_name(out, b, commands, 32, command as usize);
+    let c = put_name(out, b, lists.commands, 32, command as usize);
     let d = put_bytes(out, c, b" $ALL$");
-    let e = put_kin(out, d, classes, pattern);
+    let e = put_kin(out, d, lists.classes, pattern);
     put_bytes(out, e, b"\n")
 }
 
@@ -59,20 +59,12 @@ fn put_move(out: &mut [u8], at: usize, level: usize, own: &[u8], to: OwnState) -
 }
 
 // The line that an if begins with: its guard begins at a place.
-fn put_head(
-    g: &[u8],
-    place: usize,
-    level: usize,
-    names: &[u8],
-    classes: &[u8],
-    out: &mut [u8],
-    at: usize,
-) -> usize
-    ensures { PutsHead g.now place level names.now classes.now out.old at out.new result }
+fn put_head(g: &[u8], place: usize, level: usize, lists: Lists, out: &mut [u8], at: usize) -> usize
+    ensures { PutsHead g.now place level lists.entry.names.now lists.entry.classes.now out.old at out.new result }
 {
     let a = put_indent(out, at, level);
     let b = put_bytes(out, a, b"if ");
-    let c = put_guard(g, place, names, classes, out, b);
+    let c = put_guard(g, place, lists, out, b);
     let d = put_bytes(out, c, b" then");
     put_bytes(out, d, b"\n")
 }
@@ -84,28 +76,22 @@ pub fn put_part(
     part: &[u8],
     level: usize,
     own: &[u8],
-    names: &[u8],
-    commands: &[u8],
-    classes: &[u8],
+    lists: Lists,
     out: &mut [u8],
     at: usize,
 ) -> usize
     requires { Levelled level part.now }
-    ensures { PutsPart g.now part.now level own.now (lent names.now commands.now classes.now) out.old at out.new result }
+    ensures { PutsPart g.now part.now level own.now (lists_of lists.entry) out.old at out.new result }
 {
     let front = statement_record(part);
     let next = match front {
-        StatementRecord::Do(command, pattern) => {
-            put_do(out, at, level, commands, classes, command, pattern)
-        }
+        StatementRecord::Do(command, pattern) => { put_do(out, at, level, lists, command, pattern) }
         StatementRecord::MoveTo(to) => put_move(out, at, level, own, to),
-        StatementRecord::If(branch) => put_if(
-            g, branch, part, level, own, names, commands, classes, out, at,
-        ),
+        StatementRecord::If(branch) => put_if(g, branch, part, level, own, lists, out, at),
         StatementRecord::Unknown => return at,
     };
     let rest = behind_statement(front, part);
-    put_part(g, rest, level, own, names, commands, classes, out, next)
+    put_part(g, rest, level, own, lists, out, next)
 }
 
 // The if at the front of a list: its line, its then-part, its else-part where there is one, and its end.
@@ -116,24 +102,22 @@ fn put_if(
     part: &[u8],
     level: usize,
     own: &[u8],
-    names: &[u8],
-    commands: &[u8],
-    classes: &[u8],
+    lists: Lists,
     out: &mut [u8],
     at: usize,
 ) -> usize
     requires levelled { Levelled level part.now }
     requires part_value { statement_record part.now ≡ If branch }
-    ensures { PutsIf g.now part.now level own.now (lent names.now commands.now classes.now) out.old at out.new result }
+    ensures { PutsIf g.now part.now level own.now (lists_of lists.entry) out.old at out.new result }
 {
-    let a = put_head(g, branch.guard as usize, level, names, classes, out, at);
+    let a = put_head(g, branch.guard as usize, level, lists, out, at);
     let first = then_part(branch, part);
-    let b = put_part(g, first, level + 1, own, names, commands, classes, out, a);
+    let b = put_part(g, first, level + 1, own, lists, out, a);
     let second = else_part(branch, part);
     if second.len() < 8 {
         return put_line(out, b, level, b"endif");
     }
     let c = put_line(out, b, level, b"else");
-    let d = put_part(g, second, level + 1, own, names, commands, classes, out, c);
+    let d = put_part(g, second, level + 1, own, lists, out, c);
     put_line(out, d, level, b"endif")
 }
