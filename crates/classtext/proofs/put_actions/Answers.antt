@@ -1,7 +1,7 @@
 -- `put_actions` meets its contract. The loop's invariant: whoever writes the clauses that are left has written all.
 -- Assumes nothing.
 use native.Mathlib.Omega.{arith}
-use Rattle.lists.specs.Lent.{lent}
+use Rattle.lists.specs.Lent.{lists_of}
 use Rattle.pen.proofs.Puts.{going_none, going_on, going_end}
 use Rattle.classtext.proofs.ClassLaws.{one_less, none_left, actions_start, action_inside}
 use Rattle.classtext.proofs.put_actions.Goals as goal
@@ -21,5 +21,5 @@ loop-i-preserved c = going_on c.loop-i.invariant (one_less _ _ _ _ _ c.loop-i-te
 pub returns : goal.returns
 returns c =
     let x = c.args in
-    let e = actions_start x.sheet.bytes.now x.q.0 x.own.now (lent x.names.now x.commands.now x.classes.now) _ _ c.clauses_of-clauses.ensures.first_is c.clauses_of-clauses.ensures.count_is in
+    let e = actions_start x.sheet.bytes.now x.q.0 x.own.now (lists_of x.lists) _ _ c.clauses_of-clauses.ensures.first_is c.clauses_of-clauses.ensures.count_is in
     rw e (going_end c.loop-i.invariant (none_left _ _ _ _ _ c.loop-i-test.false) (omega (arith, c.well_formed)))
