@@ -9,11 +9,11 @@ ghost use Rattle.writings.specs.Missing.{names_right};
 ghost use Rattle.writings.specs.Writings.{named, guards_few};
 ghost use Rattle.missing.specs.Tallies.{joined, record_named, records_named, place_tally, whens_tally, commands_named, statement_tally, statements_tally, class_tally, own_fits, sets_alike};
 
-use accepted::held::{ACTIONS, CLASSES, GUARDS, STATEMENTS, WHENS, Sheet};
+use accepted::held::{ACTIONS, CLASSES, GUARDS, STATEMENTS, Sheet, WHENS};
 use bodies::clauses::{action_command, guard_place, name_set};
 use bodies::statements::{StatementRecord, statement_record};
 use lent::{bits_named, list_right, lists_right, record_right};
-use lists::{class_set, record_count};
+use lists::{Lists, class_set, record_count};
 use records::guards::{GuardRecord, guard_end, guard_record};
 use records::words::record_at;
 
@@ -194,21 +194,14 @@ fn sets_alike(classes: &[u8], sets: &[u8]) -> bool
 }
 
 // No refusal 17: the own name, the table and the lists are right and the sheet's, and no name is missing that is to be written.
-pub fn names_right(
-    sheet: Sheet,
-    own_name: &[u8],
-    own_states: &[u8],
-    names: &[u8],
-    commands: &[u8],
-    classes: &[u8],
-) -> bool
-    ensures { result ≡ names_right (named own_name.now own_states.now names.now commands.now classes.now) (class_of sheet.entry.bytes.now) }
+pub fn names_right(sheet: Sheet, own_name: &[u8], own_states: &[u8], lists: Lists) -> bool
+    ensures { result ≡ names_right (named own_name.now own_states.now lists.entry.names.now lists.entry.commands.now lists.entry.classes.now) (class_of sheet.entry.bytes.now) }
 {
     let own = own_right(own_name, own_states, sheet.state_count());
-    let right = lists_right(names, commands, classes);
-    let alike = sets_alike(classes, sheet.body(CLASSES));
-    let n = names.len() / 32;
-    let m = commands.len() / 32;
+    let right = lists_right(lists.names, lists.commands, lists.classes);
+    let alike = sets_alike(lists.classes, sheet.body(CLASSES));
+    let n = lists.names.len() / 32;
+    let m = lists.commands.len() / 32;
     let tally = class_tally(sheet, n, m);
     own & ((right & (((n <= 32) & (m <= 64)) & alike)) & tally.named)
 }
