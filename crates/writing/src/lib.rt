@@ -7,6 +7,7 @@ ghost use Rattle.writing.specs.Writing.{Writes, WritesText};
 
 use accepted::held::Sheet;
 use classtext::put_text;
+use lists::Lists;
 use missing::{guards_few, names_right};
 use model::Refusal;
 
@@ -15,23 +16,17 @@ fn write_within(
     sheet: Sheet,
     own_name: &[u8],
     own_states: &[u8],
-    names: &[u8],
-    commands: &[u8],
-    classes: &[u8],
+    lists: Lists,
     out: &mut [u8],
 ) -> Result<usize, Refusal>
-    ensures { WritesText (named own_name.now own_states.now names.now commands.now classes.now) (class_of sheet.entry.bytes.now) out.old out.new result }
+    ensures { WritesText (named own_name.now own_states.now lists.entry.names.now lists.entry.commands.now lists.entry.classes.now) (class_of sheet.entry.bytes.now) out.old out.new result }
 {
     let mut none = [0u8; 1];
-    let needed = put_text(
-        sheet, own_name, own_states, names, commands, classes, &mut none, 0,
-    );
+    let needed = put_text(sheet, own_name, own_states, lists, &mut none, 0);
     if out.len() < needed {
         return Err(Refusal::Room);
     }
-    let length = put_text(
-        sheet, own_name, own_states, names, commands, classes, out, 0,
-    );
+    let length = put_text(sheet, own_name, own_states, lists, out, 0);
     Ok(length)
 }
 
@@ -40,20 +35,16 @@ pub fn write_text(
     sheet: Sheet,
     own_name: &[u8],
     own_states: &[u8],
-    names: &[u8],
-    commands: &[u8],
-    classes: &[u8],
+    lists: Lists,
     out: &mut [u8],
 ) -> Result<usize, Refusal>
-    ensures { Writes (named own_name.now own_states.now names.now commands.now classes.now) (class_of sheet.entry.bytes.now) out.old out.new result }
+    ensures { Writes (named own_name.now own_states.now lists.entry.names.now lists.entry.commands.now lists.entry.classes.now) (class_of sheet.entry.bytes.now) out.old out.new result }
 {
-    if !names_right(sheet, own_name, own_states, names, commands, classes) {
+    if !names_right(sheet, own_name, own_states, lists) {
         return Err(Refusal::Naming);
     }
     if !guards_few(sheet) {
         return Err(Refusal::WrittenGuards);
     }
-    write_within(
-        sheet, own_name, own_states, names, commands, classes, out,
-    )
+    write_within(sheet, own_name, own_states, lists, out)
 }
