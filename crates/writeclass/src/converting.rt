@@ -5,9 +5,10 @@ ghost use Rattle.classfile.specs.Heads.{stretch, head_of};
 ghost use Rattle.classfile.specs.Reads.{Fits, rooms, shown};
 ghost use Rattle.writeclass.specs.Made.{one_class, Replied, text_file, second_file, first_file, opened, Prints, Converted};
 
-use accepted::held::Sheet;
 use crate::reasons::{too_long, wrong_own, wrong_text};
+use accepted::held::Sheet;
 use classfile::heads::{CLASSES, COMMANDS, NAMES, Used, read_head};
+use lists::Lists;
 use model::Refusal;
 use saying::Why;
 use saying::heads::wrong_line;
@@ -30,17 +31,13 @@ fn written(
     sheet: &[u8],
     own_name: &[u8],
     own_states: &[u8],
-    names: &[u8],
-    commands: &[u8],
-    classes: &[u8],
+    lists: Lists,
     text: &mut [u8],
 ) -> Result<usize, Refusal>
-    ensures { Replied sheet.now (named own_name.now own_states.now names.now commands.now classes.now) text.old result text.new }
+    ensures { Replied sheet.now (named own_name.now own_states.now lists.entry.names.now lists.entry.commands.now lists.entry.classes.now) text.old result text.new }
 {
     let sheet = Sheet::judged(sheet)?;
-    write_text(
-        sheet, own_name, own_states, names, commands, classes, text,
-    )
+    write_text(sheet, own_name, own_states, lists, text)
 }
 
 // The class file of the sheet that starts at a place of the file; its head stands between two places.
@@ -50,16 +47,14 @@ fn text_made(
     start: usize,
     own_name: &[u8],
     own_states: &[u8],
-    names: &[u8],
-    commands: &[u8],
-    classes: &[u8],
+    lists: Lists,
     text: &mut [u8],
 ) -> Result<ClassFile, Why>
     requires { (from ≤ start) × (start ≤ length file.now) }
-    ensures { Prints file.now (text_file file.now text.old (named own_name.now own_states.now names.now commands.now classes.now) from start) result text.new }
+    ensures { Prints file.now (text_file file.now text.old (named own_name.now own_states.now lists.entry.names.now lists.entry.commands.now lists.entry.classes.now) from start) result text.new }
 {
     let sheet = &file[start..];
-    let answer = written(sheet, own_name, own_states, names, commands, classes, text);
+    let answer = written(sheet, own_name, own_states, lists, text);
     match answer {
         Ok(size) => Ok(ClassFile {
             from,
@@ -72,9 +67,9 @@ fn text_made(
             from,
             sheet,
             own_states.len() / 32,
-            names.len() / 32,
-            commands.len() / 32,
-            classes,
+            lists.names.len() / 32,
+            lists.commands.len() / 32,
+            lists.classes,
         )),
     }
 }
@@ -87,29 +82,19 @@ fn lists_made(
     used: Used,
     own_name: &[u8],
     own_states: &[u8],
-    names: &[u8],
-    commands: &[u8],
-    classes: &[u8],
+    lists: Lists,
     text: &mut [u8],
 ) -> Result<ClassFile, Why>
     requires from_le_start { (from ≤ start) × (start ≤ length file.now) }
-    requires fits { Fits used names.now commands.now classes.now }
-    ensures { Prints file.now (text_file file.now text.old (named own_name.now own_states.now (take used.names names.now) (take used.commands commands.now) (take used.classes classes.now)) from start) result text.new }
+    requires fits { Fits used lists.names.now lists.commands.now lists.classes.now }
+    ensures { Prints file.now (text_file file.now text.old (named own_name.now own_states.now (take used.names lists.entry.names.now) (take used.commands lists.entry.commands.now) (take used.classes lists.entry.classes.now)) from start) result text.new }
 {
-    let n = used.names;
-    let c = used.commands;
-    let k = used.classes;
-    text_made(
-        file,
-        from,
-        start,
-        own_name,
-        own_states,
-        &names[..n],
-        &commands[..c],
-        &classes[..k],
-        text,
-    )
+    let filled = Lists {
+        names: &lists.names[..used.names],
+        commands: &lists.commands[..used.commands],
+        classes: &lists.classes[..used.classes],
+    };
+    text_made(file, from, start, own_name, own_states, filled, text)
 }
 
 // The class file of the second head, which begins at a place of the file, and the sheet behind it; the lists have this room.
@@ -141,9 +126,11 @@ fn second_made(
             used,
             own_name,
             own_states,
-            names,
-            commands,
-            classes,
+            Lists {
+                names,
+                commands,
+                classes,
+            },
             text,
         ),
     }
@@ -161,27 +148,24 @@ fn own_made(
     file: &[u8],
     from: usize,
     used: Used,
-    names: &[u8],
-    commands: &[u8],
-    classes: &[u8],
+    lists: Lists,
     text: &mut [u8],
 ) -> Result<ClassFile, Why>
     requires from_in_bounds { from ≤ length file.now }
-    requires fits { Fits used names.now commands.now classes.now }
-    ensures { Prints file.now (opened file.now text.old (shown used names.now commands.now classes.now) from) result text.new }
+    requires fits { Fits used lists.names.now lists.commands.now lists.classes.now }
+    ensures { Prints file.now (opened file.now text.old (shown used lists.entry.names.now lists.entry.commands.now lists.entry.classes.now) from) result text.new }
 {
     if !is_own(used) {
         return Err(wrong_own(used));
     }
-    let n = used.names;
     let mut second_names = [0u8; NAMES];
     let mut second_commands = [0u8; COMMANDS];
     let mut second_classes = [0u8; CLASSES];
     second_made(
         file,
         from,
-        &classes[..32],
-        &names[..n],
+        &lists.classes[..32],
+        &lists.names[..used.names],
         &mut second_names,
         &mut second_commands,
         &mut second_classes,
@@ -202,7 +186,14 @@ fn first_made(
     let answer = read_head(file, names, commands, classes);
     match answer {
         Err(bad) => Err(wrong_line(file, bad.fault, bad.start, bad.end)),
-        Ok((used, from)) => own_made(file, from, used, names, commands, classes, text),
+        Ok((used, from)) => {
+            let lists = Lists {
+                names,
+                commands,
+                classes,
+            };
+            own_made(file, from, used, lists, text)
+        },
     }
 }
 

@@ -9,7 +9,7 @@ pub returns-then-not-is_own : goal.returns-then-not-is_own
 returns-then-not-is_own c = not_own _ _ _ _ _ _ _ c.requires.fits (not_passed c.is_own.ensures (ap not c.if-not-is_own.true)) _ _
 
 pub slice_bounds-second_made-end : goal.slice_bounds-second_made-end
-slice_bounds-second_made-end c = counted c.args.classes.now _ (own_long _ _ _ _ c.requires.fits (passed c.is_own.ensures (ap not c.if-not-is_own.false)))
+slice_bounds-second_made-end c = counted c.args.lists.classes.now _ (own_long _ _ _ _ c.requires.fits (passed c.is_own.ensures (ap not c.if-not-is_own.false)))
 
 pub slice_bounds-second_made-end-2 : goal.slice_bounds-second_made-end-2
 slice_bounds-second_made-end-2 c = counted _ _ c.requires.fits.names
