@@ -61,16 +61,7 @@ fn text_made(
             to: start,
             length: size,
         }),
-        Err(x) => Err(wrong_text(
-            x,
-            file,
-            from,
-            sheet,
-            own_states.len() / 32,
-            lists.names.len() / 32,
-            lists.commands.len() / 32,
-            lists.classes,
-        )),
+        Err(x) => Err(wrong_text(x, file, from, sheet, own_states.len() / 32, lists)),
     }
 }
 

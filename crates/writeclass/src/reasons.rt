@@ -4,7 +4,7 @@ ghost use Rattle.std.specs.Prelude.{◌≤◌, length};
 use crate::gaps::{Gap, class_name, other_class, sheet_gap};
 use accepted::held::{CLASSES, Sheet};
 use classfile::heads::Used;
-use lists::record_count;
+use lists::{Lists, record_count};
 use model::Refusal;
 use saying::{Said, Why, alone, at_word, of_numbers};
 
@@ -31,33 +31,20 @@ fn wrong_gap(gap: Option<Gap>) -> Why {
 }
 
 // The states of a class are not the sheet's, or a number has no name. The second head begins at a place of the file.
-fn wrong_lists(
-    file: &[u8],
-    from: usize,
-    sheet: Sheet,
-    names: usize,
-    commands: usize,
-    classes: &[u8],
-) -> Why
+fn wrong_lists(file: &[u8], from: usize, sheet: Sheet, lists: Lists) -> Why
     requires { from ≤ length file.now }
 {
-    if let Some(other) = other_class(classes, sheet.body(CLASSES)) {
+    if let Some(other) = other_class(lists.classes, sheet.body(CLASSES)) {
         let name = class_name(file, from, other);
         return at_word(13, Said::Line, name.start, name.end);
     }
+    let names = record_count(lists.names, 32);
+    let commands = record_count(lists.commands, 32);
     wrong_gap(sheet_gap(sheet, names, commands))
 }
 
-// 17, of an accepted sheet: there are so many own states, names and commands.
-fn wrong_accepted(
-    file: &[u8],
-    from: usize,
-    sheet: Sheet,
-    states: usize,
-    names: usize,
-    commands: usize,
-    classes: &[u8],
-) -> Why
+// 17, of an accepted sheet: there are so many own states.
+fn wrong_accepted(file: &[u8], from: usize, sheet: Sheet, states: usize, lists: Lists) -> Why
     requires { from ≤ length file.now }
 {
     let s = sheet.state_count();
@@ -65,27 +52,19 @@ fn wrong_accepted(
         return of_numbers(11, states as u64, s as u64);
     }
     let k = sheet.class_count();
-    let n = record_count(classes, 36);
+    let n = record_count(lists.classes, 36);
     if n != k {
         return of_numbers(12, n as u64, k as u64);
     }
-    wrong_lists(file, from, sheet, names, commands, classes)
+    wrong_lists(file, from, sheet, lists)
 }
 
 // 17: a name is missing, or one too many.
-fn wrong_names(
-    file: &[u8],
-    from: usize,
-    sheet: &[u8],
-    states: usize,
-    names: usize,
-    commands: usize,
-    classes: &[u8],
-) -> Why
+fn wrong_names(file: &[u8], from: usize, sheet: &[u8], states: usize, lists: Lists) -> Why
     requires { from ≤ length file.now }
 {
     match Sheet::judged(sheet) {
-        Ok(sheet) => wrong_accepted(file, from, sheet, states, names, commands, classes),
+        Ok(sheet) => wrong_accepted(file, from, sheet, states, lists),
         Err(_) => alone(16),
     }
 }
@@ -105,14 +84,12 @@ pub fn wrong_text(
     from: usize,
     sheet: &[u8],
     states: usize,
-    names: usize,
-    commands: usize,
-    classes: &[u8],
+    lists: Lists,
 ) -> Why
     requires { from ≤ length file.now }
 {
     match refusal {
-        Refusal::Naming => wrong_names(file, from, sheet, states, names, commands, classes),
+        Refusal::Naming => wrong_names(file, from, sheet, states, lists),
         Refusal::WrittenGuards => alone(17),
         _ => wrong_sheet(u64::from(refusal)),
     }
