@@ -18,6 +18,13 @@ pub struct Lists<'a> {
     pub classes: &'a [u8],
 }
 
+// What is a class's own, as a caller lends it: its name, and the table of its states' names.
+#[derive(Clone, Copy)]
+pub struct Own<'a> {
+    pub name: &'a [u8],
+    pub states: &'a [u8],
+}
+
 // Every byte of a record from a place on is zero.
 fn zeros_from(bytes: &[u8], at: usize) -> bool
     requires { at ≤ length bytes.now }
