@@ -13,7 +13,7 @@ use accepted::held::{ACTIONS, CLASSES, GUARDS, STATEMENTS, Sheet, WHENS};
 use bodies::clauses::{action_command, guard_place, name_set};
 use bodies::statements::{StatementRecord, statement_record};
 use lent::{bits_named, list_right, lists_right, record_right};
-use lists::{Lists, class_set, record_count};
+use lists::{Lists, Own, class_set, record_count};
 use records::guards::{GuardRecord, guard_end, guard_record};
 use records::words::record_at;
 
@@ -164,16 +164,16 @@ fn class_tally(sheet: Sheet, names: usize, commands: usize) -> Tally
 }
 
 // The own name is one record, and the table of own states has one for each of that many.
-fn own_right(own_name: &[u8], own_states: &[u8], states: usize) -> bool
+fn own_right(own: Own, states: usize) -> bool
     requires { states ≤ 32 }
-    ensures { result ≡ own_fits own_name.now own_states.now states }
+    ensures { result ≡ own_fits own.entry.name.now own.entry.states.now states }
 {
-    if own_name.len() != 32 {
+    if own.name.len() != 32 {
         return false;
     }
-    let name = record_right(own_name);
-    let table = list_right(own_states, 32);
-    name & (table & (own_states.len() == 32 * states))
+    let name = record_right(own.name);
+    let table = list_right(own.states, 32);
+    name & (table & (own.states.len() == 32 * states))
 }
 
 // The lent classes are as many as the sheet's, with the same name sets.
@@ -194,16 +194,16 @@ fn sets_alike(classes: &[u8], sets: &[u8]) -> bool
 }
 
 // No refusal 17: the own name, the table and the lists are right and the sheet's, and no name is missing that is to be written.
-pub fn names_right(sheet: Sheet, own_name: &[u8], own_states: &[u8], lists: Lists) -> bool
-    ensures { result ≡ names_right (named own_name.now own_states.now lists.entry.names.now lists.entry.commands.now lists.entry.classes.now) (class_of sheet.entry.bytes.now) }
+pub fn names_right(sheet: Sheet, own: Own, lists: Lists) -> bool
+    ensures { result ≡ names_right (named own.entry.name.now own.entry.states.now lists.entry.names.now lists.entry.commands.now lists.entry.classes.now) (class_of sheet.entry.bytes.now) }
 {
-    let own = own_right(own_name, own_states, sheet.state_count());
+    let fits = own_right(own, sheet.state_count());
     let right = lists_right(lists.names, lists.commands, lists.classes);
     let alike = sets_alike(lists.classes, sheet.body(CLASSES));
     let n = lists.names.len() / 32;
     let m = lists.commands.len() / 32;
     let tally = class_tally(sheet, n, m);
-    own & ((right & (((n <= 32) & (m <= 64)) & alike)) & tally.named)
+    fits & ((right & (((n <= 32) & (m <= 64)) & alike)) & tally.named)
 }
 
 // No refusal 19: at most 1,024 guard records are to be written, each as often as it is used.

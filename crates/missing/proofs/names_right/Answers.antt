@@ -10,5 +10,5 @@ sets_alike-alike-requires c = (let l = body_short _ _ c.args.sheet.stands 0 (ome
 pub returns : goal.returns
 returns c =
     let x = c.args in
-    names_told x.sheet.bytes.now x.own_name.now x.own_states.now x.lists.names.now x.lists.commands.now x.lists.classes.now _ _ c.state_count.ensures.0 c.body.ensures
-    _ _ _ c.class_tally-tally.result c.own_right-own.ensures c.lists_right-right.ensures c.sets_alike-alike.ensures c.class_tally-tally.ensures
+    names_told x.sheet.bytes.now x.own.name.now x.own.states.now x.lists.names.now x.lists.commands.now x.lists.classes.now _ _ c.state_count.ensures.0 c.body.ensures
+    _ _ _ c.class_tally-tally.result c.own_right-fits.ensures c.lists_right-right.ensures c.sets_alike-alike.ensures c.class_tally-tally.ensures
