@@ -17,7 +17,7 @@ use bodies::clauses::{ACTION_CLAUSES, WHEN_CLAUSES, action_command, guard_place,
 use bodies::statements::statements_of;
 use bodytext::put_part;
 use guardtext::put_guard;
-use lists::Lists;
+use lists::{Lists, Own};
 use model::{OwnState, Referrer};
 use pen::put_bytes;
 use spelling::{put_characters, put_indent, put_name};
@@ -179,18 +179,11 @@ fn put_states(sheet: Sheet, own: &[u8], lists: Lists, out: &mut [u8], at: usize)
 }
 
 // The whole text.
-pub fn put_text(
-    sheet: Sheet,
-    own_name: &[u8],
-    own: &[u8],
-    lists: Lists,
-    out: &mut [u8],
-    at: usize,
-) -> usize
-    ensures { Puts (class_text (named own_name.now own.now lists.entry.names.now lists.entry.commands.now lists.entry.classes.now) (class_of sheet.entry.bytes.now)) out.old at out.new result }
+pub fn put_text(sheet: Sheet, own: Own, lists: Lists, out: &mut [u8], at: usize) -> usize
+    ensures { Puts (class_text (named own.entry.name.now own.entry.states.now lists.entry.names.now lists.entry.commands.now lists.entry.classes.now) (class_of sheet.entry.bytes.now)) out.old at out.new result }
 {
     let a = put_bytes(out, at, b"class: $FWPART_$TOP$");
-    let b = put_characters(out, a, own_name);
+    let b = put_characters(out, a, own.name);
     let c = put_bytes(out, b, b"\n");
-    put_states(sheet, own, lists, out, c)
+    put_states(sheet, own.states, lists, out, c)
 }
