@@ -7,44 +7,32 @@ ghost use Rattle.writing.specs.Writing.{Writes, WritesText};
 
 use accepted::held::Sheet;
 use classtext::put_text;
-use lists::Lists;
+use lists::{Lists, Own};
 use missing::{guards_few, names_right};
 use model::Refusal;
 
 // The text, or 15. It is written twice: to no buffer, which tells how long it is, and to the lent one.
-fn write_within(
-    sheet: Sheet,
-    own_name: &[u8],
-    own_states: &[u8],
-    lists: Lists,
-    out: &mut [u8],
-) -> Result<usize, Refusal>
-    ensures { WritesText (named own_name.now own_states.now lists.entry.names.now lists.entry.commands.now lists.entry.classes.now) (class_of sheet.entry.bytes.now) out.old out.new result }
+fn write_within(sheet: Sheet, own: Own, lists: Lists, out: &mut [u8]) -> Result<usize, Refusal>
+    ensures { WritesText (named own.entry.name.now own.entry.states.now lists.entry.names.now lists.entry.commands.now lists.entry.classes.now) (class_of sheet.entry.bytes.now) out.old out.new result }
 {
     let mut none = [0u8; 1];
-    let needed = put_text(sheet, own_name, own_states, lists, &mut none, 0);
+    let needed = put_text(sheet, own, lists, &mut none, 0);
     if out.len() < needed {
         return Err(Refusal::Room);
     }
-    let length = put_text(sheet, own_name, own_states, lists, out, 0);
+    let length = put_text(sheet, own, lists, out, 0);
     Ok(length)
 }
 
 // 17 for the names, 19 for the guard records that would be written, then the text or 15.
-pub fn write_text(
-    sheet: Sheet,
-    own_name: &[u8],
-    own_states: &[u8],
-    lists: Lists,
-    out: &mut [u8],
-) -> Result<usize, Refusal>
-    ensures { Writes (named own_name.now own_states.now lists.entry.names.now lists.entry.commands.now lists.entry.classes.now) (class_of sheet.entry.bytes.now) out.old out.new result }
+pub fn write_text(sheet: Sheet, own: Own, lists: Lists, out: &mut [u8]) -> Result<usize, Refusal>
+    ensures { Writes (named own.entry.name.now own.entry.states.now lists.entry.names.now lists.entry.commands.now lists.entry.classes.now) (class_of sheet.entry.bytes.now) out.old out.new result }
 {
-    if !names_right(sheet, own_name, own_states, lists) {
+    if !names_right(sheet, own, lists) {
         return Err(Refusal::Naming);
     }
     if !guards_few(sheet) {
         return Err(Refusal::WrittenGuards);
     }
-    write_within(sheet, own_name, own_states, lists, out)
+    write_within(sheet, own, lists, out)
 }
