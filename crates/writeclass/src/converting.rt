@@ -8,7 +8,7 @@ ghost use Rattle.writeclass.specs.Made.{one_class, Replied, text_file, second_fi
 use crate::reasons::{too_long, wrong_own, wrong_text};
 use accepted::held::Sheet;
 use classfile::heads::{CLASSES, COMMANDS, NAMES, Used, read_head};
-use lists::Lists;
+use lists::{Lists, Own};
 use model::Refusal;
 use saying::Why;
 use saying::heads::wrong_line;
@@ -27,17 +27,11 @@ pub struct ClassFile {
 }
 
 // The text of a sheet's class with these names. The sheet is judged first.
-fn written(
-    sheet: &[u8],
-    own_name: &[u8],
-    own_states: &[u8],
-    lists: Lists,
-    text: &mut [u8],
-) -> Result<usize, Refusal>
-    ensures { Replied sheet.now (named own_name.now own_states.now lists.entry.names.now lists.entry.commands.now lists.entry.classes.now) text.old result text.new }
+fn written(sheet: &[u8], own: Own, lists: Lists, text: &mut [u8]) -> Result<usize, Refusal>
+    ensures { Replied sheet.now (named own.entry.name.now own.entry.states.now lists.entry.names.now lists.entry.commands.now lists.entry.classes.now) text.old result text.new }
 {
     let sheet = Sheet::judged(sheet)?;
-    write_text(sheet, own_name, own_states, lists, text)
+    write_text(sheet, own, lists, text)
 }
 
 // The class file of the sheet that starts at a place of the file; its head stands between two places.
@@ -45,23 +39,22 @@ fn text_made(
     file: &[u8],
     from: usize,
     start: usize,
-    own_name: &[u8],
-    own_states: &[u8],
+    own: Own,
     lists: Lists,
     text: &mut [u8],
 ) -> Result<ClassFile, Why>
     requires { (from ≤ start) × (start ≤ length file.now) }
-    ensures { Prints file.now (text_file file.now text.old (named own_name.now own_states.now lists.entry.names.now lists.entry.commands.now lists.entry.classes.now) from start) result text.new }
+    ensures { Prints file.now (text_file file.now text.old (named own.entry.name.now own.entry.states.now lists.entry.names.now lists.entry.commands.now lists.entry.classes.now) from start) result text.new }
 {
     let sheet = &file[start..];
-    let answer = written(sheet, own_name, own_states, lists, text);
+    let answer = written(sheet, own, lists, text);
     match answer {
         Ok(size) => Ok(ClassFile {
             from,
             to: start,
             length: size,
         }),
-        Err(x) => Err(wrong_text(x, file, from, sheet, own_states.len() / 32, lists)),
+        Err(x) => Err(wrong_text(x, file, from, sheet, own.states.len() / 32, lists)),
     }
 }
 
@@ -71,36 +64,34 @@ fn lists_made(
     from: usize,
     start: usize,
     used: Used,
-    own_name: &[u8],
-    own_states: &[u8],
+    own: Own,
     lists: Lists,
     text: &mut [u8],
 ) -> Result<ClassFile, Why>
     requires from_le_start { (from ≤ start) × (start ≤ length file.now) }
     requires fits { Fits used lists.names.now lists.commands.now lists.classes.now }
-    ensures { Prints file.now (text_file file.now text.old (named own_name.now own_states.now (take used.names lists.entry.names.now) (take used.commands lists.entry.commands.now) (take used.classes lists.entry.classes.now)) from start) result text.new }
+    ensures { Prints file.now (text_file file.now text.old (named own.entry.name.now own.entry.states.now (take used.names lists.entry.names.now) (take used.commands lists.entry.commands.now) (take used.classes lists.entry.classes.now)) from start) result text.new }
 {
     let filled = Lists {
         names: &lists.names[..used.names],
         commands: &lists.commands[..used.commands],
         classes: &lists.classes[..used.classes],
     };
-    text_made(file, from, start, own_name, own_states, filled, text)
+    text_made(file, from, start, own, filled, text)
 }
 
 // The class file of the second head, which begins at a place of the file, and the sheet behind it; the lists have this room.
 fn second_made(
     file: &[u8],
     from: usize,
-    own_name: &[u8],
-    own_states: &[u8],
+    own: Own,
     names: &mut [u8],
     commands: &mut [u8],
     classes: &mut [u8],
     text: &mut [u8],
 ) -> Result<ClassFile, Why>
     requires { from ≤ length file.now }
-    ensures { Prints file.now (second_file file.now text.old own_name.now own_states.now from (head_of (stretch file.now from (length file.now)) (rooms names.old commands.old classes.old))) result text.new }
+    ensures { Prints file.now (second_file file.now text.old own.entry.name.now own.entry.states.now from (head_of (stretch file.now from (length file.now)) (rooms names.old commands.old classes.old))) result text.new }
 {
     let answer = read_head(&file[from..], names, commands, classes);
     match answer {
@@ -115,8 +106,7 @@ fn second_made(
             from,
             from + size,
             used,
-            own_name,
-            own_states,
+            own,
             Lists {
                 names,
                 commands,
@@ -149,14 +139,17 @@ fn own_made(
     if !is_own(used) {
         return Err(wrong_own(used));
     }
+    let own = Own {
+        name: &lists.classes[..32],
+        states: &lists.names[..used.names],
+    };
     let mut second_names = [0u8; NAMES];
     let mut second_commands = [0u8; COMMANDS];
     let mut second_classes = [0u8; CLASSES];
     second_made(
         file,
         from,
-        &lists.classes[..32],
-        &lists.names[..used.names],
+        own,
         &mut second_names,
         &mut second_commands,
         &mut second_classes,
