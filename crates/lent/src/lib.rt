@@ -5,10 +5,10 @@ ghost use Rattle.std.specs.Prelude.{◌≡◌, ◌≤◌, ◌<◌, ◌/◌, leng
 ghost use Rattle.model.specs.Words.{every, some_in};
 ghost use Rattle.grammar.specs.Words.{same};
 ghost use Rattle.naming.specs.NameLists.{record_right, records_in, none_twice, list_right, bits_named, lists_right};
-ghost use Rattle.lists.specs.Lent.{lent, name_record, sets_in, behind};
+ghost use Rattle.lists.specs.Lent.{lists_of, name_record, sets_in, behind};
 
 use kinds::{is_name, is_same};
-use lists::{class_set, name_length, name_record, record_count, record_is};
+use lists::{Lists, class_set, name_length, name_record, record_count, record_is};
 use model::ChildName;
 use records::sets::has_name;
 
@@ -105,17 +105,17 @@ fn sets_named(names: usize, classes: &[u8]) -> bool
 }
 
 // The lent lists are in order: no refusal 17 by them, whatever the text.
-pub fn lists_right(names: &[u8], commands: &[u8], classes: &[u8]) -> bool
-    ensures { result ≡ lists_right (lent names.now commands.now classes.now) }
+pub fn lists_right(lists: Lists) -> bool
+    ensures { result ≡ lists_right (lists_of lists.entry) }
 {
-    if !list_right(names, 32) {
+    if !list_right(lists.names, 32) {
         return false;
     }
-    if !list_right(commands, 32) {
+    if !list_right(lists.commands, 32) {
         return false;
     }
-    if !list_right(classes, 36) {
+    if !list_right(lists.classes, 36) {
         return false;
     }
-    sets_named(record_count(names, 32), classes)
+    sets_named(record_count(lists.names, 32), lists.classes)
 }
