@@ -3,7 +3,7 @@
 
 ghost use Rattle.std.specs.Prelude.{◌≡◌, false, [], length, ◌≤◌};
 ghost use Rattle.naming.specs.NameLists.{records_in, listed_in};
-ghost use Rattle.lists.specs.Lent.{lent};
+ghost use Rattle.lists.specs.Lent.{lists_of};
 ghost use Rattle.words.specs.Scanning.{tokens_from};
 ghost use Rattle.own.specs.Ahead.{names_from};
 ghost use Rattle.naming.specs.Known.{among};
@@ -12,7 +12,7 @@ ghost use Rattle.known.specs.Roles.{Known, action_for, own_for, listed_for, word
 
 use differing::all_differ;
 use kinds::{ACTION, ALL, ANY, COMMA, DO, END, IN, LEFT, MOVE_TO, NAME, NOT_IN, STATE, STAY};
-use lists::number_in;
+use lists::{Lists, number_in};
 use own::{Holding, empty_table, hold, number_of};
 use words::next_word;
 
@@ -25,17 +25,17 @@ fn is_listed(list: &[u8], size: usize, name: &[u8]) -> bool
 }
 
 // The name is in the list that the word before it asks for.
-fn listed_for(before: u8, name: &[u8], names: &[u8], commands: &[u8], classes: &[u8]) -> bool
-    ensures { result ≡ listed_for (lent names.now commands.now classes.now) before name.now }
+fn listed_for(before: u8, name: &[u8], lists: Lists) -> bool
+    ensures { result ≡ listed_for (lists_of lists.entry) before name.now }
 {
     if (before == ACTION) | (before == DO) {
-        return is_listed(commands, 32, name);
+        return is_listed(lists.commands, 32, name);
     }
     if (before == ANY) | (before == ALL) {
-        return is_listed(classes, 36, name);
+        return is_listed(lists.classes, 36, name);
     }
     if ((before == IN) | (before == NOT_IN)) | ((before == LEFT) | (before == COMMA)) {
-        return is_listed(names, 32, name);
+        return is_listed(lists.names, 32, name);
     }
     true
 }
@@ -96,12 +96,10 @@ fn word_known(
     actions: &[usize],
     held: Holding,
     own: &[usize],
-    names: &[u8],
-    commands: &[u8],
-    classes: &[u8],
+    lists: Lists,
 ) -> bool
     requires { Holds text.now actions.now scope.count scope.rest × Holds text.now own.now held.count held.rest }
-    ensures { result ≡ word_known (lent names.now commands.now classes.now) (all_names text.now own.now held.count 2 26 held.rest) scope.referring (all_names text.now actions.now scope.count 3 2 scope.rest) before kind name.now }
+    ensures { result ≡ word_known (lists_of lists.entry) (all_names text.now own.now held.count 2 26 held.rest) scope.referring (all_names text.now actions.now scope.count 3 2 scope.rest) before kind name.now }
 {
     if kind != NAME {
         return true;
@@ -112,7 +110,7 @@ fn word_known(
     if !own_for(text, before, name, own, held) {
         return false;
     }
-    listed_for(before, name, names, commands, classes)
+    listed_for(before, name, lists)
 }
 
 // No command stands twice in a state, told at its state:.
@@ -148,16 +146,9 @@ fn entered(text: &[u8], kind: u8, end: usize, scope: Scope, actions: &mut [usize
 }
 
 // Every word of the text is known, and no command stands twice in a state; the table holds the first of the own states.
-fn words_known(
-    text: &[u8],
-    own: &[usize],
-    held: Holding,
-    names: &[u8],
-    commands: &[u8],
-    classes: &[u8],
-) -> bool
+fn words_known(text: &[u8], own: &[usize], held: Holding, lists: Lists) -> bool
     requires { Holds text.now own.now held.count held.rest }
-    ensures { result ≡ words_known (lent names.now commands.now classes.now) (all_names text.now own.now held.count 2 26 held.rest) 27 false [] (tokens_from text.now 0) }
+    ensures { result ≡ words_known (lists_of lists.entry) (all_names text.now own.now held.count 2 26 held.rest) 27 false [] (tokens_from text.now 0) }
 {
     let mut actions = empty_table();
     let mut scope = Scope {
@@ -185,9 +176,7 @@ fn words_known(
             &actions,
             held,
             own,
-            names,
-            commands,
-            classes,
+            lists,
         ) {
             return false;
         }
@@ -209,13 +198,13 @@ fn own_table() -> [usize; 65536]
 
 // No refusal 17 by the text, whose words are those of a text of the grammar: every name is known, no state stands twice, no command twice in
 // a state, and every do referrer has its action.
-pub fn text_known(text: &[u8], names: &[u8], commands: &[u8], classes: &[u8]) -> bool
-    ensures { Known text.now (lent names.now commands.now classes.now) result }
+pub fn text_known(text: &[u8], lists: Lists) -> bool
+    ensures { Known text.now (lists_of lists.entry) result }
 {
     if !all_differ(text, 0, STATE, END) {
         return false;
     }
     let mut own = own_table();
     let held = hold(text, 0, STATE, END, &mut own);
-    words_known(text, &own, held, names, commands, classes)
+    words_known(text, &own, held, lists)
 }
