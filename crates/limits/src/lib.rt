@@ -2,11 +2,11 @@
 #![tactic(auto)]
 
 ghost use Rattle.std.specs.Prelude.{◌≡◌};
-ghost use Rattle.lists.specs.Lent.{lent};
+ghost use Rattle.lists.specs.Lent.{lists_of};
 ghost use Rattle.limits.specs.Shallow.{shallow};
 ghost use Rattle.limits.specs.Counts.{counts_right, SetsTold, FewTold};
 
-use lists::{class_set, record_count};
+use lists::{Lists, class_set, record_count};
 use records::guards::guard_end;
 use sizes::Sizes;
 
@@ -50,9 +50,11 @@ fn sets_right(classes: &[u8]) -> bool
 }
 
 // No limit is passed but perhaps that of operators on a path.
-pub fn few_enough(n: Sizes, names: &[u8], commands: &[u8], classes: &[u8]) -> bool
-    ensures { FewTold n (lent names.now commands.now classes.now) result }
+pub fn few_enough(n: Sizes, lists: Lists) -> bool
+    ensures { FewTold n (lists_of lists.entry) result }
 {
-    let lists = (names.len() / 32 <= 32) & (commands.len() / 32 <= 64);
-    lists & (counts_right(classes.len() / 36, n) & (sets_right(classes) & (n.deepest <= 8)))
+    let listed = (lists.names.len() / 32 <= 32) & (lists.commands.len() / 32 <= 64);
+    listed
+        & (counts_right(lists.classes.len() / 36, n)
+            & (sets_right(lists.classes) & (n.deepest <= 8)))
 }
