@@ -8,7 +8,7 @@ ghost use Rattle.words.specs.Scanning.{tokens_from};
 ghost use Rattle.ordering.specs.Ordering.{pattern_in, with_name, braced, set_ahead, side_ahead, atom_ahead};
 
 use kinds::{END, IN, LEFT, NAME, NOT_IN, RIGHT};
-use lists::{number_in, record_count};
+use lists::{Lists, number_in, record_count};
 use model::ChildName;
 use records::sets::has_name;
 use words::next_word;
@@ -111,15 +111,9 @@ fn side_ahead(text: &[u8], at: usize, kind: u8, pattern: u8, names: &[u8]) -> Op
 
 // What stands behind a quantifier: an atom's kind, pattern and name set, or no atom.
 #[tactic(auto, using(crate::proofs::AtomSteps::goes))]
-pub fn atom_ahead(
-    text: &[u8],
-    at: usize,
-    kind: u8,
-    names: &[u8],
-    classes: &[u8],
-) -> Option<(u8, u8, u32)>
+pub fn atom_ahead(text: &[u8], at: usize, kind: u8, lists: Lists) -> Option<(u8, u8, u32)>
     requires { kind < 255 }
-    ensures { result ≡ atom_ahead (records_in 32 names.now) (records_in 36 classes.now) kind (tokens_from text.now at) }
+    ensures { result ≡ atom_ahead (records_in 32 lists.entry.names.now) (records_in 36 lists.entry.classes.now) kind (tokens_from text.now at) }
 {
     let kin = next_word(text, at);
     let of = kin.kind;
@@ -128,6 +122,6 @@ pub fn atom_ahead(
     if of == END {
         return None;
     }
-    let pattern = pattern_in(classes, of, &text[start..end]);
-    side_ahead(text, end, kind, pattern, names)
+    let pattern = pattern_in(lists.classes, of, &text[start..end]);
+    side_ahead(text, end, kind, pattern, lists.names)
 }
