@@ -8,6 +8,7 @@ ghost use Rattle.prefixed.specs.Walking.{LeftOperand, Safe, leveled, Turned, Ord
 use crate::inserts::insert;
 use atoms::atom_ahead;
 use kinds::END;
+use lists::Lists;
 use ordering::{Mark, mark_of};
 use words::next_word;
 
@@ -77,16 +78,15 @@ fn put_atom(
     text: &[u8],
     at: usize,
     kind: u8,
-    names: &[u8],
-    classes: &[u8],
+    lists: Lists,
     stand: Stand,
     keys: &mut [usize],
     bytes: &mut [u8],
 ) -> Stand
     requires { Safe stand keys.old bytes.old × (kind < 255) }
-    ensures { Turned stand result keys.old bytes.old keys.new bytes.new (with_atom (atom_ahead (records_in 32 names.now) (records_in 36 classes.now) kind (tokens_from text.now at))) }
+    ensures { Turned stand result keys.old bytes.old keys.new bytes.new (with_atom (atom_ahead (records_in 32 lists.entry.names.now) (records_in 36 lists.entry.classes.now) kind (tokens_from text.now at))) }
 {
-    match atom_ahead(text, at, kind, names, classes) {
+    match atom_ahead(text, at, kind, lists) {
         Some((k, p, s)) => put_record(stand, stand.count, 0, k, p, s, keys, bytes),
         None => stand,
     }
@@ -96,21 +96,20 @@ fn put_atom(
 fn turn_at(
     text: &[u8],
     at: usize,
-    names: &[u8],
-    classes: &[u8],
+    lists: Lists,
     mark: Mark,
     stand: Stand,
     keys: &mut [usize],
     bytes: &mut [u8],
 ) -> Stand
     requires { Safe stand keys.old bytes.old × (stand.level < 9223372036854775807) }
-    ensures { Turned stand result keys.old bytes.old keys.new bytes.new (turn (records_in 32 names.now) (records_in 36 classes.now) mark (tokens_from text.now at)) }
+    ensures { Turned stand result keys.old bytes.old keys.new bytes.new (turn (records_in 32 lists.entry.names.now) (records_in 36 lists.entry.classes.now) mark (tokens_from text.now at)) }
 {
     let level = stand.level;
     let count = stand.count;
     match mark {
-        Mark::Any => put_atom(text, at, 0, names, classes, stand, keys, bytes),
-        Mark::All => put_atom(text, at, 2, names, classes, stand, keys, bytes),
+        Mark::Any => put_atom(text, at, 0, lists, stand, keys, bytes),
+        Mark::All => put_atom(text, at, 2, lists, stand, keys, bytes),
         Mark::Edge => Stand {
             first: count,
             ..stand
@@ -131,8 +130,8 @@ fn turn_at(
 }
 
 // The guard records of a text, in the sheet's order; how many there are.
-pub fn order_guards(text: &[u8], names: &[u8], classes: &[u8], bytes: &mut [u8]) -> usize
-    ensures { Ordered text.now names.now classes.now bytes.new result }
+pub fn order_guards(text: &[u8], lists: Lists, bytes: &mut [u8]) -> usize
+    ensures { Ordered text.now lists.entry.names.now lists.entry.classes.now bytes.new result }
 {
     let mut keys = [0usize; 1024];
     let mut stand = Stand {
@@ -150,15 +149,6 @@ pub fn order_guards(text: &[u8], names: &[u8], classes: &[u8], bytes: &mut [u8])
             return stand.count;
         }
         at = end;
-        stand = turn_at(
-            text,
-            end,
-            names,
-            classes,
-            mark_of(kind),
-            stand,
-            &mut keys,
-            bytes,
-        );
+        stand = turn_at(text, end, lists, mark_of(kind), stand, &mut keys, bytes);
     }
 }
