@@ -12,7 +12,7 @@ ghost use Rattle.statements.specs.Parts.{else_at, PartEnds};
 ghost use Rattle.statements.specs.Statements.{is_statement, count_after, depth_after, on_after, kin_ahead, move_ahead, do_ahead, if_ahead, number_of, statement_at, WritesStatements};
 
 use kinds::{ACTION, CHILDREN, DO, ELSE, END, ENDIF, IF, MOVE_TO, STATE};
-use lists::number_in;
+use lists::{Lists, number_in};
 use own::{Holding, hold};
 use whens::{found_number, guards_after, name_ahead, own_number, put_record};
 use words::next_word;
@@ -149,19 +149,12 @@ fn put_move(
 }
 
 // The record of a do whose command stands at a place.
-fn put_do(
-    text: &[u8],
-    commands: &[u8],
-    classes: &[u8],
-    here: usize,
-    out: &mut [u8],
-    at: usize,
-) -> usize
-    ensures { Puts (eights (do_ahead (number_of 32 commands.now) (number_of 36 classes.now) (tokens_from text.now here) ∷ [])) out.old at out.new result }
+fn put_do(text: &[u8], lists: Lists, here: usize, out: &mut [u8], at: usize) -> usize
+    ensures { Puts (eights (do_ahead (number_of 32 lists.entry.commands.now) (number_of 36 lists.entry.classes.now) (tokens_from text.now here) ∷ [])) out.old at out.new result }
 {
     let name = name_ahead(text, here);
-    let command = listed_number(commands, 32, &text[name.start..name.end]);
-    let pattern = kin_behind(text, classes, here);
+    let command = listed_number(lists.commands, 32, &text[name.start..name.end]);
+    let pattern = kin_behind(text, lists.classes, here);
     put_short(out, at, 0, command, pattern)
 }
 
@@ -179,8 +172,7 @@ fn put_if(text: &[u8], here: usize, n: usize, out: &mut [u8], at: usize) -> usiz
 // The record of the statement of a first word of that kind, by the words from a place on, with n guard records before it.
 fn put_statement(
     text: &[u8],
-    commands: &[u8],
-    classes: &[u8],
+    lists: Lists,
     table: &[usize],
     own: Holding,
     kind: u8,
@@ -190,11 +182,11 @@ fn put_statement(
     at: usize,
 ) -> usize
     requires { Filled text.now table.now 2 26 0 own.count own.rest }
-    ensures { Puts (eights (statement_at text.now commands.now classes.now here n kind ∷ [])) out.old at out.new result }
+    ensures { Puts (eights (statement_at text.now lists.entry.commands.now lists.entry.classes.now here n kind ∷ [])) out.old at out.new result }
 {
     match kind {
         MOVE_TO => put_move(text, table, own, here, out, at),
-        DO => put_do(text, commands, classes, here, out, at),
+        DO => put_do(text, lists, here, out, at),
         _ => put_if(text, here, n, out, at),
     }
 }
@@ -211,14 +203,8 @@ fn on_after(on: bool, kind: u8) -> bool
 }
 
 // The body of statements of the text's class, from a place of the buffer on; the place behind it.
-pub fn write_statements(
-    text: &[u8],
-    commands: &[u8],
-    classes: &[u8],
-    out: &mut [u8],
-    at: usize,
-) -> usize
-    ensures { WritesStatements text.now commands.now classes.now out.old at out.new result }
+pub fn write_statements(text: &[u8], lists: Lists, out: &mut [u8], at: usize) -> usize
+    ensures { WritesStatements text.now lists.entry.commands.now lists.entry.classes.now out.old at out.new result }
 {
     let mut table = [0usize; 64];
     let own = hold(text, 0, STATE, END, &mut table);
@@ -238,9 +224,7 @@ pub fn write_statements(
         n = guards_after(n, k);
         on = on_after(on, k);
         if first {
-            end = put_statement(
-                text, commands, classes, &table, own, k, here, before, out, end,
-            );
+            end = put_statement(text, lists, &table, own, k, here, before, out, end);
         }
     }
 }
