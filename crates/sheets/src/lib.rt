@@ -6,6 +6,7 @@ ghost use Rattle.sheets.specs.Sheets.{body_size, states_size, body_sizes, sheet_
 
 use clauses::{write_actions, write_states};
 use laying::{write_classes, write_contents};
+use lists::Lists;
 use pen::put_bytes;
 use sizes::Sizes;
 use statements::write_statements;
@@ -41,23 +42,16 @@ fn body_sizes(classes: usize, n: Sizes) -> [u16; 6]
 }
 
 // The sheet of a text that has these sizes and guard records.
-pub fn write_sheet(
-    text: &[u8],
-    commands: &[u8],
-    classes: &[u8],
-    n: Sizes,
-    guards: &[u8],
-    out: &mut [u8],
-) -> usize
-    ensures { WritesSheet text.now commands.now classes.now n guards.now out.old out.new result }
+pub fn write_sheet(text: &[u8], lists: Lists, n: Sizes, guards: &[u8], out: &mut [u8]) -> usize
+    ensures { WritesSheet text.now lists.entry.commands.now lists.entry.classes.now n guards.now out.old out.new result }
 {
-    let a = write_contents(out, body_sizes(classes.len() / 36, n));
-    let b = write_classes(classes, out, a);
+    let a = write_contents(out, body_sizes(lists.classes.len() / 36, n));
+    let b = write_classes(lists.classes, out, a);
     let c = write_states(text, out, b);
     let d = write_whens(text, out, c);
     let e = put_bytes(out, d, guards);
-    let f = write_actions(text, commands, out, e);
-    write_statements(text, commands, classes, out, f)
+    let f = write_actions(text, lists.commands, out, e);
+    write_statements(text, lists, out, f)
 }
 
 // The length of a sheet with so many records in its bodies.
