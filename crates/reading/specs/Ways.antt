@@ -8,9 +8,15 @@ use Rattle.encoding.specs.Encoding.{all_guards}
 use Rattle.encoding.specs.Within.{Within}
 use Rattle.sizes.specs.Sized.{sizes_in}
 use Rattle.sizes.specs.declared.Sizes.{Sizes}
+use Rattle.lists.specs.Lent.{lists_of}
+use Rattle.lists.specs.declared.Lists as Code
 use Rattle.readings.specs.Readings.{Lent, class_for, known, within}
 use Rattle.readings.specs.Promise.{Answered}
 use Rattle.model.specs.Answers.{ReadAnswer}
+
+-- what was lent, where the code's struct holds the lists
+abbrev pub asked_of : List ℕ → Code.Lists → List ℕ → List ℕ → Lent
+asked_of text l sheet table = record { text = text; lists = lists_of l; sheet = sheet; table = table }
 
 -- the text is one of the grammar
 abbrev pub OfText : Lent → ReadAnswer → List ℕ → List ℕ → Type 0
@@ -25,7 +31,3 @@ abbrev pub OfWithin : Lent → Sizes → List ℕ → ReadAnswer → List ℕ �
 OfWithin q n guards r sheet table =
     (t : Text) → Says q.text t → known q t ≡ true → within q t ≡ true → Within (class_for q t) → n ≡ sizes_in (class_for q t)
     → guards ≡ eights (all_guards (class_for q t)) → Answered q r sheet table
-
--- whatever the names are that it was put in order with
-abbrev pub OfWritten : (List ℕ → Lent) → Sizes → List ℕ → ReadAnswer → List ℕ → List ℕ → Type 0
-OfWritten q n guards r sheet table = (names : List ℕ) → OfWithin (q names) n guards r sheet table

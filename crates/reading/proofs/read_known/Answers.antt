@@ -26,4 +26,4 @@ pub returns : goal.returns
 returns c =
     not_deep _ _ c.sizes_of-n.ensures _ c.few_enough.ensures (c.if-not-few_enough.false) _ _ c.order_guards-count.ensures
     (c.order_guards-count.auto.bytes ∙ c.empty_records-records.ensures) c.read_within.result _ _
-    (passed c.all_shallow.ensures (ap not c.if-not-all_shallow.false)) (c.read_within.ensures _)
+    (passed c.all_shallow.ensures (ap not c.if-not-all_shallow.false)) c.read_within.ensures
