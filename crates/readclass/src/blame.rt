@@ -4,7 +4,7 @@ ghost use Rattle.std.specs.Prelude.{◌<◌, ◌≤◌, length};
 ghost use Rattle.own.specs.Held.{Holds};
 
 use kinds::{ACTION, ALL, ANY, COMMA, DO, END, IN, LEFT, MOVE_TO, NAME, NOT_IN, STATE, STAY};
-use lists::number_in;
+use lists::{Lists, number_in};
 use own::{Holding, empty_table, hold, next_named, number_of};
 use words::next_word;
 
@@ -86,10 +86,10 @@ fn command_held(before: u8, bit: u64, scope: Scope) -> Result<(), Cause> {
 }
 
 // A name where a child class or a child's state stands.
-fn child_held(before: u8, names: &[u8], classes: &[u8], name: &[u8]) -> Result<(), Cause> {
+fn child_held(before: u8, lists: Lists, name: &[u8]) -> Result<(), Cause> {
     match before {
-        ANY | ALL => unless(is_listed(classes, 36, name), Cause::ChildClass),
-        IN | NOT_IN | LEFT | COMMA => unless(is_listed(names, 32, name), Cause::ChildState),
+        ANY | ALL => unless(is_listed(lists.classes, 36, name), Cause::ChildClass),
+        IN | NOT_IN | LEFT | COMMA => unless(is_listed(lists.names, 32, name), Cause::ChildState),
         _ => Ok(()),
     }
 }
@@ -104,9 +104,7 @@ fn word_held(
     scope: Scope,
     own: &[usize],
     held: Holding,
-    names: &[u8],
-    commands: &[u8],
-    classes: &[u8],
+    lists: Lists,
 ) -> Result<(), Cause>
     requires start_le_end { (start ≤ end) × (end ≤ length text.now) }
     requires holds { Holds text.now own.now held.count held.rest }
@@ -120,8 +118,8 @@ fn word_held(
             let number = number_of(text, own, held.count, held.rest, STATE, END, name);
             own_held(before, number, scope)
         }
-        ACTION | DO => command_held(before, bit_of(commands, name), scope),
-        _ => child_held(before, names, classes, name),
+        ACTION | DO => command_held(before, bit_of(lists.commands, name), scope),
+        _ => child_held(before, lists, name),
     }
 }
 
@@ -160,14 +158,7 @@ fn entered(
 }
 
 // The first name that is to blame, by a table of the own states.
-fn first_wrong(
-    text: &[u8],
-    own: &[usize],
-    held: Holding,
-    names: &[u8],
-    commands: &[u8],
-    classes: &[u8],
-) -> Option<Blame>
+fn first_wrong(text: &[u8], own: &[usize], held: Holding, lists: Lists) -> Option<Blame>
     requires { Holds text.now own.now held.count held.rest }
 {
     let mut before = END;
@@ -185,24 +176,22 @@ fn first_wrong(
         if kind == END {
             return None;
         }
-        let one = word_held(
-            text, before, kind, start, end, scope, own, held, names, commands, classes,
-        );
+        let one = word_held(text, before, kind, start, end, scope, own, held, lists);
         if let Err(cause) = one {
             return Some(Blame { cause, start, end });
         }
-        scope = entered(text, before, kind, start, end, commands, scope);
+        scope = entered(text, before, kind, start, end, lists.commands, scope);
         before = kind;
         at = end;
     }
 }
 
 // The first name of a class text that is to blame; of a text whose states the table cannot hold, none is told.
-pub fn name_to_blame(text: &[u8], names: &[u8], commands: &[u8], classes: &[u8]) -> Option<Blame> {
+pub fn name_to_blame(text: &[u8], lists: Lists) -> Option<Blame> {
     let mut own = empty_table();
     let held = hold(text, 0, STATE, END, &mut own);
     if 8191 < held.count {
         return None;
     }
-    first_wrong(text, &own, held, names, commands, classes)
+    first_wrong(text, &own, held, lists)
 }

@@ -1,12 +1,13 @@
 // From a class file to its sheet, or to why there is none.
 ghost use Rattle.std.specs.Prelude.{◌≤◌, length, take};
-ghost use Rattle.lists.specs.Lent.{lent};
+ghost use Rattle.lists.specs.Lent.{lent, lists_of};
 ghost use Rattle.classfile.specs.Heads.{stretch, head_of};
 ghost use Rattle.classfile.specs.Reads.{Fits, rooms};
 ghost use Rattle.readclass.specs.Made.{size_of, TextRead, Made, Converted};
 
 use crate::reasons::{too_long, wrong_text, wrong_word};
 use classfile::heads::{CLASSES, COMMANDS, NAMES, Used, read_head};
+use lists::Lists;
 use model::Misread;
 use reading::read_class;
 use saying::Why;
@@ -17,23 +18,16 @@ use saying::places::in_file;
 const FILE: usize = 1310720;
 
 // The sheet of the class text that starts at a place of the file: how many bytes it has, or why there is none. A table of own states has 32 names, as the names line may have.
-fn text_made(
-    file: &[u8],
-    start: usize,
-    names: &[u8],
-    commands: &[u8],
-    classes: &[u8],
-    sheet: &mut [u8],
-) -> Result<usize, Why>
+fn text_made(file: &[u8], start: usize, lists: Lists, sheet: &mut [u8]) -> Result<usize, Why>
     requires { start ≤ length file.now }
-    ensures { TextRead (stretch file.now start (length file.now)) (lent names.now commands.now classes.now) sheet.old (size_of result) sheet.new }
+    ensures { TextRead (stretch file.now start (length file.now)) (lists_of lists.entry) sheet.old (size_of result) sheet.new }
 {
     let mut table = [0u8; NAMES];
-    let answer = read_class(&file[start..], names, commands, classes, sheet, &mut table);
+    let answer = read_class(&file[start..], lists, sheet, &mut table);
     match answer {
         Ok((size, _)) => Ok(size),
         Err(Misread::WrongWord(place)) => Err(wrong_word(file, in_file(file, start, place))),
-        Err(Misread::Refused(x)) => Err(wrong_text(x, file, start, names, commands, classes)),
+        Err(Misread::Refused(x)) => Err(wrong_text(x, file, start, lists)),
     }
 }
 
@@ -42,26 +36,22 @@ fn lists_made(
     file: &[u8],
     start: usize,
     used: Used,
-    names: &[u8],
-    commands: &[u8],
-    classes: &[u8],
+    lists: Lists,
     sheet: &mut [u8],
 ) -> Result<usize, Why>
     requires start_in_bounds { start ≤ length file.now }
-    requires fits { Fits used names.now commands.now classes.now }
-    ensures { TextRead (stretch file.now start (length file.now)) (lent (take used.names names.now) (take used.commands commands.now) (take used.classes classes.now)) sheet.old (size_of result) sheet.new }
+    requires fits { Fits used lists.names.now lists.commands.now lists.classes.now }
+    ensures { TextRead (stretch file.now start (length file.now)) (lent (take used.names lists.entry.names.now) (take used.commands lists.entry.commands.now) (take used.classes lists.entry.classes.now)) sheet.old (size_of result) sheet.new }
 {
     let n = used.names;
     let c = used.commands;
     let k = used.classes;
-    text_made(
-        file,
-        start,
-        &names[..n],
-        &commands[..c],
-        &classes[..k],
-        sheet,
-    )
+    let filled = Lists {
+        names: &lists.names[..n],
+        commands: &lists.commands[..c],
+        classes: &lists.classes[..k],
+    };
+    text_made(file, start, filled, sheet)
 }
 
 // The sheet of a class file; the lists have this room.
@@ -77,7 +67,14 @@ fn head_made(
     let answer = read_head(file, names, commands, classes);
     match answer {
         Err(bad) => Err(wrong_line(file, bad.fault, bad.start, bad.end)),
-        Ok((used, start)) => lists_made(file, start, used, names, commands, classes, sheet),
+        Ok((used, start)) => {
+            let lists = Lists {
+                names,
+                commands,
+                classes,
+            };
+            lists_made(file, start, used, lists, sheet)
+        }
     }
 }
 

@@ -4,6 +4,7 @@ ghost use Rattle.std.specs.Prelude.{◌≤◌, length};
 use crate::blame::name_to_blame;
 use crate::sizing::limit_passed;
 use kinds::END;
+use lists::Lists;
 use model::Refusal;
 use saying::heads::is_long;
 use saying::places::in_file;
@@ -31,17 +32,10 @@ pub fn wrong_word(file: &[u8], place: usize) -> Why {
 }
 
 // 17: a name of the class text, which starts at a place of the file.
-fn wrong_name(
-    file: &[u8],
-    start: usize,
-    text: &[u8],
-    names: &[u8],
-    commands: &[u8],
-    classes: &[u8],
-) -> Why
+fn wrong_name(file: &[u8], start: usize, text: &[u8], lists: Lists) -> Why
     requires { start ≤ length file.now }
 {
-    match name_to_blame(text, names, commands, classes) {
+    match name_to_blame(text, lists) {
         Some(blame) => at_word(
             NAMES + blame.cause as u8,
             Said::Column,
@@ -53,30 +47,23 @@ fn wrong_name(
 }
 
 // 18: a limit.
-fn wrong_size(file: &[u8], start: usize, text: &[u8], names: &[u8], classes: &[u8]) -> Why
+fn wrong_size(file: &[u8], start: usize, text: &[u8], lists: Lists) -> Why
     requires { start ≤ length file.now }
 {
-    match limit_passed(text, names, classes) {
+    match limit_passed(text, lists) {
         Some((limit, at)) => at_word(limit as u8, Said::Column, in_file(file, start, at), 0),
         None => alone(19),
     }
 }
 
 // Why a class text is refused.
-pub fn wrong_text(
-    refusal: Refusal,
-    file: &[u8],
-    start: usize,
-    names: &[u8],
-    commands: &[u8],
-    classes: &[u8],
-) -> Why
+pub fn wrong_text(refusal: Refusal, file: &[u8], start: usize, lists: Lists) -> Why
     requires { start ≤ length file.now }
 {
     let text = &file[start..];
     match refusal {
-        Refusal::Naming => wrong_name(file, start, text, names, commands, classes),
-        Refusal::Limit => wrong_size(file, start, text, names, classes),
+        Refusal::Naming => wrong_name(file, start, text, lists),
+        Refusal::Limit => wrong_size(file, start, text, lists),
         _ => alone(20),
     }
 }

@@ -3,6 +3,7 @@ ghost use Rattle.std.specs.Prelude.{◌≤◌, length};
 
 use kinds::{ACTION, AND, DO, END, ENDIF, IF, MOVE_TO, NOT_IN, STATE, STAY, THEN, WHEN};
 use limits::all_shallow;
+use lists::Lists;
 use prefixed::walks::order_guards;
 use words::next_word;
 
@@ -94,7 +95,7 @@ fn guard_stop(text: &[u8], from: usize) -> usize
 }
 
 // A word of that kind begins a guard that has too many operators on one path.
-fn is_deep(text: &[u8], kind: u8, start: usize, end: usize, names: &[u8], classes: &[u8]) -> bool
+fn is_deep(text: &[u8], kind: u8, start: usize, end: usize, lists: Lists) -> bool
     requires { (start ≤ end) × (end ≤ length text.now) }
 {
     if kind != WHEN && kind != IF {
@@ -102,13 +103,13 @@ fn is_deep(text: &[u8], kind: u8, start: usize, end: usize, names: &[u8], classe
     }
     let stop = guard_stop(text, end);
     let mut records = [0u8; 8192];
-    let count = order_guards(&text[start..stop], names, classes, &mut records);
+    let count = order_guards(&text[start..stop], lists, &mut records);
     let size = count * 8;
     !all_shallow(&records[..size])
 }
 
 // Where a clause or an if begins whose guard has too many operators on one path, if one does.
-fn too_deep(text: &[u8], names: &[u8], classes: &[u8]) -> Option<usize> {
+fn too_deep(text: &[u8], lists: Lists) -> Option<usize> {
     let mut at = 0;
     loop {
         let word = next_word(text, at);
@@ -118,14 +119,14 @@ fn too_deep(text: &[u8], names: &[u8], classes: &[u8]) -> Option<usize> {
         if kind == END {
             return None;
         }
-        if is_deep(text, kind, start, at, names, classes) {
+        if is_deep(text, kind, start, at, lists) {
             return Some(start);
         }
     }
 }
 
 // The first limit that is passed, and where the word stands that passes it.
-pub fn limit_passed(text: &[u8], names: &[u8], classes: &[u8]) -> Option<(Limit, usize)> {
+pub fn limit_passed(text: &[u8], lists: Lists) -> Option<(Limit, usize)> {
     let counted = [
         Limit::States,
         Limit::Whens,
@@ -139,6 +140,6 @@ pub fn limit_passed(text: &[u8], names: &[u8], classes: &[u8]) -> Option<(Limit,
             return Some((limit, at));
         }
     }
-    let at = too_deep(text, names, classes)?;
+    let at = too_deep(text, lists)?;
     Some((Limit::Operators, at))
 }
