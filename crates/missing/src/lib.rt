@@ -198,7 +198,7 @@ pub fn names_right(sheet: Sheet, own: Own, lists: Lists) -> bool
     ensures { result ≡ names_right (named own.entry.name.now own.entry.states.now lists.entry.names.now lists.entry.commands.now lists.entry.classes.now) (class_of sheet.entry.bytes.now) }
 {
     let fits = own_right(own, sheet.state_count());
-    let right = lists_right(lists.names, lists.commands, lists.classes);
+    let right = lists_right(lists);
     let alike = sets_alike(lists.classes, sheet.body(CLASSES));
     let n = lists.names.len() / 32;
     let m = lists.commands.len() / 32;
