@@ -11,8 +11,8 @@ use askread::ask_names;
 use askwrite::ask_own_name;
 use check::same;
 use lines::answers::{bad_line, command_line, judge_line, loop_line, phase_line, probe_line};
-use strings::blank;
-use texts::reading::{count, decode, first_field, other_fields, read_number};
+use strings::with_string;
+use texts::reading::{count, first_field, other_fields, read_number};
 
 // The questions of a child list and a state.
 #[derive(Clone, Copy)]
@@ -126,11 +126,11 @@ fn ask_sending(
 ) -> usize
     ensures { Appended out.old out.new 0 (sending_answer sending sheet.now list.now state fields.now) result }
 {
-    let mut lent = blank();
-    let Some(n) = decode(first_field(fields), &mut lent) else {
-        return bad_line(out);
-    };
-    put_sending(sending, sheet, list, state, &mut lent[..n], out)
+    with_string(
+        fields,
+        out,
+        |lent, _, out| put_sending(sending, sheet, list, state, lent, out),
+    )
 }
 
 // COMMAND BUFFER
@@ -182,11 +182,11 @@ fn ask_state(asked: Asked, sheet: &[u8], list: &[u8], fields: &[u8], out: &mut [
 fn ask_list(asked: Asked, sheet: &[u8], fields: &[u8], out: &mut [u8]) -> usize
     ensures { Appended out.old out.new 0 (list_answer asked sheet.now fields.now) result }
 {
-    let mut list = blank();
-    let Some(n) = decode(first_field(fields), &mut list) else {
-        return bad_line(out);
-    };
-    ask_state(asked, sheet, &list[..n], other_fields(fields), out)
+    with_string(
+        fields,
+        out,
+        |list, others, out| ask_state(asked, sheet, list, others, out),
+    )
 }
 
 // The loop question is put, and its line written.
@@ -204,11 +204,11 @@ fn ask_loop(sheet: &[u8], fields: &[u8], out: &mut [u8]) -> usize
     let Some(present) = read_number(first_field(fields)) else {
         return bad_line(out);
     };
-    let mut lent = blank();
-    let Some(n) = decode(first_field(other_fields(fields)), &mut lent) else {
-        return bad_line(out);
-    };
-    put_loop(sheet, present, &mut lent[..n], out)
+    with_string(
+        other_fields(fields),
+        out,
+        |lent, _, out| put_loop(sheet, present, lent, out),
+    )
 }
 
 // What is behind SHEET, or TEXT.
@@ -229,11 +229,11 @@ fn ask_sheet(verb: Verb, sheet: &[u8], fields: &[u8], out: &mut [u8]) -> usize
 fn ask_fields(verb: Verb, fields: &[u8], out: &mut [u8]) -> usize
     ensures { Appended out.old out.new 0 (fields_answer verb fields.now) result }
 {
-    let mut sheet = blank();
-    let Some(n) = decode(first_field(fields), &mut sheet) else {
-        return bad_line(out);
-    };
-    ask_sheet(verb, &sheet[..n], other_fields(fields), out)
+    with_string(
+        fields,
+        out,
+        |sheet, others, out| ask_sheet(verb, sheet, others, out),
+    )
 }
 
 // The answer to a line, written from the buffer's front on; the place behind it.

@@ -6,9 +6,7 @@ ghost use Rattle.texts.specs.Texts.{Appended};
 ghost use Rattle.writings.specs.Writings.{named};
 ghost use Rattle.askwrite.specs.AskWrite.{line_of_written, buffer_answer, classes_answer, commands_answer, names_answer, own_states_answer, own_name_answer};
 
-use lines::answers::bad_line;
-use strings::blank;
-use texts::reading::{decode, first_field, other_fields};
+use strings::with_string;
 use writeline::write_line;
 
 // The class text is written, and its line.
@@ -43,19 +41,12 @@ fn ask_buffer(
 ) -> usize
     ensures { Appended out.old out.new 0 (buffer_answer sheet.now own_name.now own_states.now names.now commands.now classes.now fields.now) result }
 {
-    let mut lent = blank();
-    let Some(n) = decode(first_field(fields), &mut lent) else {
-        return bad_line(out);
-    };
-    put_written(
-        sheet,
-        own_name,
-        own_states,
-        names,
-        commands,
-        classes,
-        &mut lent[..n],
+    with_string(
+        fields,
         out,
+        |lent, _, out| put_written(
+            sheet, own_name, own_states, names, commands, classes, lent, out,
+        ),
     )
 }
 
@@ -71,19 +62,12 @@ fn ask_classes(
 ) -> usize
     ensures { Appended out.old out.new 0 (classes_answer sheet.now own_name.now own_states.now names.now commands.now fields.now) result }
 {
-    let mut classes = blank();
-    let Some(n) = decode(first_field(fields), &mut classes) else {
-        return bad_line(out);
-    };
-    ask_buffer(
-        sheet,
-        own_name,
-        own_states,
-        names,
-        commands,
-        &classes[..n],
-        other_fields(fields),
+    with_string(
+        fields,
         out,
+        |classes, others, out| ask_buffer(
+            sheet, own_name, own_states, names, commands, classes, others, out,
+        ),
     )
 }
 
@@ -98,18 +82,12 @@ fn ask_commands(
 ) -> usize
     ensures { Appended out.old out.new 0 (commands_answer sheet.now own_name.now own_states.now names.now fields.now) result }
 {
-    let mut commands = blank();
-    let Some(n) = decode(first_field(fields), &mut commands) else {
-        return bad_line(out);
-    };
-    ask_classes(
-        sheet,
-        own_name,
-        own_states,
-        names,
-        &commands[..n],
-        other_fields(fields),
+    with_string(
+        fields,
         out,
+        |commands, others, out| ask_classes(
+            sheet, own_name, own_states, names, commands, others, out,
+        ),
     )
 }
 
@@ -123,17 +101,10 @@ fn ask_names(
 ) -> usize
     ensures { Appended out.old out.new 0 (names_answer sheet.now own_name.now own_states.now fields.now) result }
 {
-    let mut names = blank();
-    let Some(n) = decode(first_field(fields), &mut names) else {
-        return bad_line(out);
-    };
-    ask_commands(
-        sheet,
-        own_name,
-        own_states,
-        &names[..n],
-        other_fields(fields),
+    with_string(
+        fields,
         out,
+        |names, others, out| ask_commands(sheet, own_name, own_states, names, others, out),
     )
 }
 
@@ -141,20 +112,20 @@ fn ask_names(
 fn ask_own_states(sheet: &[u8], own_name: &[u8], fields: &[u8], out: &mut [u8]) -> usize
     ensures { Appended out.old out.new 0 (own_states_answer sheet.now own_name.now fields.now) result }
 {
-    let mut own_states = blank();
-    let Some(n) = decode(first_field(fields), &mut own_states) else {
-        return bad_line(out);
-    };
-    ask_names(sheet, own_name, &own_states[..n], other_fields(fields), out)
+    with_string(
+        fields,
+        out,
+        |own_states, others, out| ask_names(sheet, own_name, own_states, others, out),
+    )
 }
 
 // OWNNAME OWNSTATES NAMES COMMANDS CLASSES BUFFER, behind SHEET.
 pub fn ask_own_name(sheet: &[u8], fields: &[u8], out: &mut [u8]) -> usize
     ensures { Appended out.old out.new 0 (own_name_answer sheet.now fields.now) result }
 {
-    let mut own_name = blank();
-    let Some(n) = decode(first_field(fields), &mut own_name) else {
-        return bad_line(out);
-    };
-    ask_own_states(sheet, &own_name[..n], other_fields(fields), out)
+    with_string(
+        fields,
+        out,
+        |own_name, others, out| ask_own_states(sheet, own_name, others, out),
+    )
 }

@@ -1,13 +1,9 @@
 -- The string, and what is behind it.
 -- Assumes nothing.
+use Rattle.std.proofs.Common.{rules}
 use Rattle.askread.specs.AskRead.{classes_answer}
-use Rattle.strings.proofs.StringLaws.{string_wrong, string_read}
 use Rattle.askread.proofs.ask_classes.Goals as goal
-
-pub returns-in_default : goal.returns-in_default
-unfolding classes_answer
-returns-in_default c = string_wrong _ _ _ _ _ _ _ _ c.first_field.ensures c.blank-classes.ensures c.in_default.ensures.decoded c.bad_line.ensures
 
 pub returns : goal.returns
 unfolding classes_answer
-returns c = string_read _ _ _ _ _ _ _ _ c.first_field.ensures c.blank-classes.ensures _ c.in-Some.ensures.within.0 c.in-Some.ensures.decoded _ c.other_fields.ensures c.ask_buffers.ensures
+returns c = c.with_string.ensures _ (λ s g o r t m e. search rules)
