@@ -159,6 +159,7 @@ fn words_known(text: &[u8], own: &[usize], held: Holding, lists: Lists) -> bool
     // A number and no Option: the definition words_known takes the kind of the word before as a number, and 27 is no word's kind.
     let mut before = 27;
     let mut at = 0;
+    // No count: a step is a word long.
     loop {
         let word = next_word(text, at);
         let kind = word.kind;
