@@ -16,6 +16,7 @@ pub fn all_shallow(guards: &[u8]) -> bool
 {
     let count = guards.len() / 8;
     let mut at = 0;
+    // No count: a step is a guard long.
     while at < count {
         let Some(next) = guard_end(guards, at, 16) else {
             return false;
