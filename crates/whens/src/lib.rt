@@ -96,6 +96,7 @@ fn referrer_ahead(text: &[u8], at: usize) -> Refer
     ensures { Refers text.now at result }
 {
     let mut here = at;
+    // No count: a step is a word long.
     loop {
         let w = next_word(text, here);
         here = w.end;
@@ -144,6 +145,7 @@ pub fn write_whens(text: &[u8], out: &mut [u8], at: usize) -> usize
     let mut here = 0;
     let mut n = 0;
     let mut end = at;
+    // No count: a step is a word long.
     loop {
         let w = next_word(text, here);
         let k = w.kind;
