@@ -70,6 +70,7 @@ fn part_ahead(text: &[u8], at: usize) -> PartEnd
     let mut here = at;
     let mut depth = 0;
     let mut n = 0;
+    // No count: a step is a word long.
     loop {
         let w = next_word(text, here);
         let k = w.kind;
@@ -212,6 +213,7 @@ pub fn write_statements(text: &[u8], lists: Lists, out: &mut [u8], at: usize) ->
     let mut on = false;
     let mut n = 0;
     let mut end = at;
+    // No count: a step is a word long.
     loop {
         let w = next_word(text, here);
         let k = w.kind;
