@@ -24,6 +24,7 @@ fn number_ahead(text: &[u8], at: usize, counted: &[u8], stops: &[u8]) -> usize
 {
     let mut n = 0;
     let mut from = at;
+    // No count: a step is a word long.
     loop {
         let word = next_word(text, from);
         let kind = word.kind;
@@ -83,6 +84,7 @@ pub fn write_states(text: &[u8], out: &mut [u8], at: usize) -> usize
 {
     let mut end = at;
     let mut from = 0;
+    // No count: a step is a word long.
     loop {
         let word = next_word(text, from);
         let kind = word.kind;
@@ -104,6 +106,7 @@ pub fn write_actions(text: &[u8], commands: &[u8], out: &mut [u8], at: usize) ->
 {
     let mut end = at;
     let mut from = 0;
+    // No count: a step is a word long.
     loop {
         let word = next_word(text, from);
         let kind = word.kind;
