@@ -168,6 +168,7 @@ fn first_wrong(text: &[u8], own: &[usize], held: Holding, lists: Lists) -> Optio
         begun: 0,
     };
     let mut at = 0;
+    // No count: a step is a word long.
     loop {
         let word = next_word(text, at);
         let kind = word.kind;

@@ -43,13 +43,10 @@ fn lists_made(
     requires fits { Fits used lists.names.now lists.commands.now lists.classes.now }
     ensures { TextRead (stretch file.now start (length file.now)) (lent (take used.names lists.entry.names.now) (take used.commands lists.entry.commands.now) (take used.classes lists.entry.classes.now)) sheet.old (size_of result) sheet.new }
 {
-    let n = used.names;
-    let c = used.commands;
-    let k = used.classes;
     let filled = Lists {
-        names: &lists.names[..n],
-        commands: &lists.commands[..c],
-        classes: &lists.classes[..k],
+        names: &lists.names[..used.names],
+        commands: &lists.commands[..used.commands],
+        classes: &lists.classes[..used.classes],
     };
     text_made(file, start, filled, sheet)
 }

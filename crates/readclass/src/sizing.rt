@@ -56,6 +56,7 @@ fn passes(text: &[u8], limit: Limit) -> Option<usize> {
     let mut left = most(limit);
     let mut acting = false;
     let mut at = 0;
+    // No count: a step is a word long.
     loop {
         let word = next_word(text, at);
         let kind = word.kind;
@@ -81,6 +82,7 @@ fn guard_stop(text: &[u8], from: usize) -> usize
     ensures { (from ≤ result) × (result ≤ length text.now) }
 {
     let mut at = from;
+    // No count: a step is a word long.
     loop {
         let word = next_word(text, at);
         let kind = word.kind;
@@ -111,6 +113,7 @@ fn is_deep(text: &[u8], kind: u8, start: usize, end: usize, lists: Lists) -> boo
 // Where a clause or an if begins whose guard has too many operators on one path, if one does.
 fn too_deep(text: &[u8], lists: Lists) -> Option<usize> {
     let mut at = 0;
+    // No count: a step is a word long.
     loop {
         let word = next_word(text, at);
         let kind = word.kind;
