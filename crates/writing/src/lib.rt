@@ -2,8 +2,7 @@
 #![tactic(auto)]
 
 ghost use Rattle.sheet.specs.Reading.{class_of};
-ghost use Rattle.writings.specs.Writings.{named};
-ghost use Rattle.writing.specs.Writing.{Writes, WritesText};
+ghost use Rattle.writing.specs.Writing.{named_of, Writes, WritesText};
 
 use accepted::held::Sheet;
 use classtext::put_text;
@@ -13,7 +12,7 @@ use model::Refusal;
 
 // The text, or 15. It is written twice: to no buffer, which tells how long it is, and to the lent one.
 fn write_within(sheet: Sheet, own: Own, lists: Lists, out: &mut [u8]) -> Result<usize, Refusal>
-    ensures { WritesText (named own.entry.name.now own.entry.states.now lists.entry.names.now lists.entry.commands.now lists.entry.classes.now) (class_of sheet.entry.bytes.now) out.old out.new result }
+    ensures { WritesText (named_of own.entry lists.entry) (class_of sheet.entry.bytes.now) out.old out.new result }
 {
     let mut none = [0u8; 1];
     let needed = put_text(sheet, own, lists, &mut none, 0);
@@ -26,7 +25,7 @@ fn write_within(sheet: Sheet, own: Own, lists: Lists, out: &mut [u8]) -> Result<
 
 // 17 for the names, 19 for the guard records that would be written, then the text or 15.
 pub fn write_text(sheet: Sheet, own: Own, lists: Lists, out: &mut [u8]) -> Result<usize, Refusal>
-    ensures { Writes (named own.entry.name.now own.entry.states.now lists.entry.names.now lists.entry.commands.now lists.entry.classes.now) (class_of sheet.entry.bytes.now) out.old out.new result }
+    ensures { Writes (named_of own.entry lists.entry) (class_of sheet.entry.bytes.now) out.old out.new result }
 {
     if !names_right(sheet, own, lists) {
         return Err(Refusal::Naming);
