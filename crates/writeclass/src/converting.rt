@@ -1,6 +1,7 @@
 // From two heads and a class sheet to the class file, or to why there is none.
 ghost use Rattle.std.specs.Prelude.{◌≡◌, ◌≤◌, length, take};
 ghost use Rattle.writings.specs.Writings.{named};
+ghost use Rattle.writing.specs.Writing.{named_of};
 ghost use Rattle.classfile.specs.Heads.{stretch, head_of};
 ghost use Rattle.classfile.specs.Reads.{Fits, rooms, shown};
 ghost use Rattle.writeclass.specs.Made.{one_class, Replied, text_file, second_file, first_file, opened, Prints, Converted};
@@ -28,7 +29,7 @@ pub struct ClassFile {
 
 // The text of a sheet's class with these names. The sheet is judged first.
 fn written(sheet: &[u8], own: Own, lists: Lists, text: &mut [u8]) -> Result<usize, Refusal>
-    ensures { Replied sheet.now (named own.entry.name.now own.entry.states.now lists.entry.names.now lists.entry.commands.now lists.entry.classes.now) text.old result text.new }
+    ensures { Replied sheet.now (named_of own.entry lists.entry) text.old result text.new }
 {
     let sheet = Sheet::judged(sheet)?;
     write_text(sheet, own, lists, text)
@@ -44,7 +45,7 @@ fn text_made(
     text: &mut [u8],
 ) -> Result<ClassFile, Why>
     requires { (from ≤ start) × (start ≤ length file.now) }
-    ensures { Prints file.now (text_file file.now text.old (named own.entry.name.now own.entry.states.now lists.entry.names.now lists.entry.commands.now lists.entry.classes.now) from start) result text.new }
+    ensures { Prints file.now (text_file file.now text.old (named_of own.entry lists.entry) from start) result text.new }
 {
     let sheet = &file[start..];
     let answer = written(sheet, own, lists, text);
