@@ -168,17 +168,8 @@ fn words_known(text: &[u8], own: &[usize], held: Holding, lists: Lists) -> bool
         if kind == END {
             return true;
         }
-        if !word_known(
-            text,
-            before,
-            kind,
-            &text[start..end],
-            scope,
-            &actions,
-            held,
-            own,
-            lists,
-        ) {
+        let name = &text[start..end];
+        if !word_known(text, before, kind, name, scope, &actions, held, own, lists) {
             return false;
         }
         if !actions_differ(text, kind, end) {

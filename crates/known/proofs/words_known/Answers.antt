@@ -11,14 +11,14 @@ loop-held-init c = (c.empty_table-actions.ensures, going_start _ _ _ _)
 pub returns-then-kind-eq-END : goal.returns-then-kind-eq-END
 returns-then-kind-eq-END c = sym (c.loop-held.invariant.1.told ∙ known_end _ _ _ _ _ _ _ _ _ _ c.next_word-word.ensures c.if-kind-eq-END.true)
 
-pub slice_bounds-word_known-count : goal.slice_bounds-word_known-count
-slice_bounds-word_known-count c = let h = c.next_word-word.ensures.moves c.if-kind-eq-END.false in search rules
+pub slice_bounds-name-count : goal.slice_bounds-name-count
+slice_bounds-name-count c = let h = c.next_word-word.ensures.moves c.if-kind-eq-END.false in search rules
 
-pub slice_bounds-word_known-start : goal.slice_bounds-word_known-start
-slice_bounds-word_known-start c = let h = c.next_word-word.ensures.moves c.if-kind-eq-END.false in search rules
+pub slice_bounds-name-start : goal.slice_bounds-name-start
+slice_bounds-name-start c = let h = c.next_word-word.ensures.moves c.if-kind-eq-END.false in search rules
 
-pub slice_bounds-word_known-end : goal.slice_bounds-word_known-end
-slice_bounds-word_known-end c = let h = c.next_word-word.ensures.inside c.if-kind-eq-END.false in search rules
+pub slice_bounds-name-end : goal.slice_bounds-name-end
+slice_bounds-name-end c = let h = c.next_word-word.ensures.inside c.if-kind-eq-END.false in search rules
 
 pub returns-then-not-word_known : goal.returns-then-not-word_known
 returns-then-not-word_known c =
