@@ -16,6 +16,7 @@ use accepted::held::{CLASSES, Sheet};
 use children::crews::occupy;
 use children::lists::list_ok;
 use commands::handle;
+use lists::{Lists, Own};
 use loops::asked::loop_with;
 use model::{Handling, Loops, Misread, OwnState, Phase, Probed, Refusal};
 use running::Crew;
@@ -83,7 +84,12 @@ pub fn read_class(
 ) -> Result<(usize, usize), Misread>
     ensures { Answered (asked text.now names.now commands.now classes.now sheet.old table.old) result sheet.new table.new }
 {
-    reading::read_class(text, names, commands, classes, sheet, table)
+    let lists = Lists {
+        names,
+        commands,
+        classes,
+    };
+    reading::read_class(text, lists, sheet, table)
 }
 
 // What is the text of this sheet's class, with these names? It is written at the head of the lent buffer.
@@ -99,9 +105,16 @@ pub fn write_class(
     ensures { Promised (text_of sheet.now (named own_name.now own_states.now names.now commands.now classes.now) out.old) result out.new }
 {
     let sheet = Sheet::judged(sheet)?;
-    write_text(
-        sheet, own_name, own_states, names, commands, classes, out,
-    )
+    let own = Own {
+        name: own_name,
+        states: own_states,
+    };
+    let lists = Lists {
+        names,
+        commands,
+        classes,
+    };
+    write_text(sheet, own, lists, out)
 }
 
 // What follows is asked of an accepted sheet: refusals 10 to 15 in their order, then the answer.
@@ -128,12 +141,7 @@ fn probe_in(sheet: Sheet, children: &[u8], state: u8) -> Result<Probed, Refusal>
 }
 
 // The when phase: what it comes to on the children of the list.
-fn phase_from(
-    sheet: Sheet,
-    children: &[u8],
-    state: u8,
-    out: &mut [u8],
-) -> Result<Phase, Refusal>
+fn phase_from(sheet: Sheet, children: &[u8], state: u8, out: &mut [u8]) -> Result<Phase, Refusal>
     ensures { Promised (phase_from sheet.entry.bytes.now children.now state out.old) result out.new }
 {
     place(sheet, children, state)?;
