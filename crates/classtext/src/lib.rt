@@ -12,7 +12,7 @@ ghost use Rattle.writings.specs.Layout.{class_text, states_text};
 ghost use Rattle.writings.specs.Writings.{named};
 ghost use Rattle.classtext.specs.ClassText.{WhenOf, referrer_words, when_in_text, whens_text, action_in_text, actions_text, state_in_text};
 
-use accepted::held::{ACTIONS, GUARDS, STATEMENTS, WHENS, Sheet};
+use accepted::held::{ACTIONS, GUARDS, STATEMENTS, Sheet, WHENS};
 use bodies::clauses::{ACTION_CLAUSES, WHEN_CLAUSES, action_command, guard_place, referrer_at};
 use bodies::statements::statements_of;
 use bodytext::put_part;
@@ -100,16 +100,7 @@ fn put_whens(
     let n = clauses.count;
     let mut end = at;
     for i in 0..n {
-        end = put_when(
-            sheet, q,
-            first + i,
-            own,
-            names,
-            commands,
-            classes,
-            out,
-            end,
-        );
+        end = put_when(sheet, q, first + i, own, names, commands, classes, out, end);
     }
     end
 }

@@ -9,7 +9,7 @@ ghost use Rattle.writings.specs.Missing.{names_right};
 ghost use Rattle.writings.specs.Writings.{named, guards_few};
 ghost use Rattle.missing.specs.Tallies.{joined, record_named, records_named, place_tally, whens_tally, commands_named, statement_tally, statements_tally, class_tally, own_fits, sets_alike};
 
-use accepted::held::{ACTIONS, CLASSES, GUARDS, STATEMENTS, WHENS, Sheet};
+use accepted::held::{ACTIONS, CLASSES, GUARDS, STATEMENTS, Sheet, WHENS};
 use bodies::clauses::{action_command, guard_place, name_set};
 use bodies::statements::{StatementRecord, statement_record};
 use lent::{bits_named, list_right, lists_right, record_right};

@@ -53,7 +53,5 @@ pub fn write_text(
     if !guards_few(sheet) {
         return Err(Refusal::WrittenGuards);
     }
-    write_within(
-        sheet, own_name, own_states, names, commands, classes, out,
-    )
+    write_within(sheet, own_name, own_states, names, commands, classes, out)
 }
