@@ -99,9 +99,7 @@ pub fn write_class(
     ensures { Promised (text_of sheet.now (named own_name.now own_states.now names.now commands.now classes.now) out.old) result out.new }
 {
     let sheet = Sheet::judged(sheet)?;
-    write_text(
-        sheet, own_name, own_states, names, commands, classes, out,
-    )
+    write_text(sheet, own_name, own_states, names, commands, classes, out)
 }
 
 // What follows is asked of an accepted sheet: refusals 10 to 15 in their order, then the answer.
@@ -128,12 +126,7 @@ fn probe_in(sheet: Sheet, children: &[u8], state: u8) -> Result<Probed, Refusal>
 }
 
 // The when phase: what it comes to on the children of the list.
-fn phase_from(
-    sheet: Sheet,
-    children: &[u8],
-    state: u8,
-    out: &mut [u8],
-) -> Result<Phase, Refusal>
+fn phase_from(sheet: Sheet, children: &[u8], state: u8, out: &mut [u8]) -> Result<Phase, Refusal>
     ensures { Promised (phase_from sheet.entry.bytes.now children.now state out.old) result out.new }
 {
     place(sheet, children, state)?;

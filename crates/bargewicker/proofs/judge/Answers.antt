@@ -2,7 +2,7 @@
 -- Assumes nothing.
 use mathlib.Core.Path.{refl, sym}
 use Rattle.std.proofs.lemmas.Result.{err_from_is_err_and}
-use Rattle.sheet.proofs.AskedLaws.{stands, refused_too}
+use Rattle.sheet.proofs.AskedLaws.{refused_too}
 use Rattle.bargewicker.specs.Questions.{judge, reply}
 use Rattle.bargewicker.proofs.PromiseLaws.{refused_so, accepted_so}
 use Rattle.bargewicker.proofs.judge.Goals as goal
