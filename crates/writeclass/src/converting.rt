@@ -5,8 +5,8 @@ ghost use Rattle.classfile.specs.Heads.{stretch, head_of};
 ghost use Rattle.classfile.specs.Reads.{Fits, rooms, shown};
 ghost use Rattle.writeclass.specs.Made.{one_class, Replied, text_file, second_file, first_file, opened, Prints, Converted};
 
-use accepted::held::Sheet;
 use crate::reasons::{too_long, wrong_own, wrong_text};
+use accepted::held::Sheet;
 use classfile::heads::{CLASSES, COMMANDS, NAMES, Used, read_head};
 use model::Refusal;
 use saying::Why;
@@ -38,9 +38,7 @@ fn written(
     ensures { Replied sheet.now (named own_name.now own_states.now names.now commands.now classes.now) text.old result text.new }
 {
     let sheet = Sheet::judged(sheet)?;
-    write_text(
-        sheet, own_name, own_states, names, commands, classes, text,
-    )
+    write_text(sheet, own_name, own_states, names, commands, classes, text)
 }
 
 // The class file of the sheet that starts at a place of the file; its head stands between two places.

@@ -2,7 +2,7 @@
 // whose states are not the sheet's.
 ghost use Rattle.std.specs.Prelude.{◌≤◌, length};
 
-use accepted::held::{ACTIONS, GUARDS, STATEMENTS, WHENS, Sheet};
+use accepted::held::{ACTIONS, GUARDS, STATEMENTS, Sheet, WHENS};
 use bodies::clauses::{action_command, guard_place, name_set};
 use bodies::statements::{StatementRecord, statement_record};
 use classfile::fields::{Field, Kind, next_field};
@@ -101,8 +101,7 @@ fn statements_gap(statements: &[u8], g: &[u8], names: usize, commands: usize) ->
 }
 
 // The first number without a name of an accepted sheet.
-pub fn sheet_gap(sheet: Sheet, names: usize, commands: usize) -> Option<Gap>
-{
+pub fn sheet_gap(sheet: Sheet, names: usize, commands: usize) -> Option<Gap> {
     let guards = sheet.body(GUARDS);
     let actions = sheet.body(ACTIONS);
     let statements = sheet.body(STATEMENTS);
