@@ -13,3 +13,4 @@ pub mod TextRight
 pub mod WrittenBack
 pub mod Demands
 pub mod AnswerBounds
+pub mod JudgedLaws

@@ -5,7 +5,7 @@ ghost use Rattle.records.specs.Bytes.{in_fours};
 ghost use Rattle.arrows.specs.Sorting.{aim};
 ghost use Rattle.blocks.specs.ClauseTables.{FirstsOf, FromsOf, StateLent, ReadState, ClausesOf};
 
-use accepted::held::{ACTIONS, STATES, WHENS, Sheet};
+use accepted::held::{ACTIONS, STATES, Sheet, WHENS};
 use arrows::sorting::Clauses;
 use bodies::clauses::{
     ACTION_CLAUSES, WHEN_CLAUSES, count_at, count_sum, guard_place, referrer_at,

@@ -1,6 +1,6 @@
 // The head of a class file, read word by word into the three lists.
 ghost use Rattle.std.specs.Prelude.{◌≡◌, ◌+◌, ◌≤◌, length};
-ghost use Rattle.classfile.specs.Reads.{alone, begun, Named, Commanded, classed, stated, ended, ended_buffer, lined, lined_buffer, Fits, Stands, Worded, FieldTurned, HeadRead, Inside};
+ghost use Rattle.classfile.specs.Reads.{bad_line, alone, begun, Named, Commanded, classed, stated, ended, ended_buffer, lined, lined_buffer, Fits, Stands, Worded, FieldTurned, HeadRead, Inside};
 
 use crate::fields::{Kind, next_field};
 use crate::parts::{Fault, add_class, add_name, add_state, judge_name};
@@ -193,7 +193,14 @@ fn field_turn(
     word_turn(file, start, end, line, used, names, commands, classes)
 }
 
-// Reads the head of a class file into the three lists.
+// A head that is wrong, and the word that shows it.
+fn wrong_at(fault: Fault, start: usize, end: usize) -> Result<(Used, usize), BadLine>
+    ensures { result ≡ bad_line fault start end }
+{
+    Err(BadLine { fault, start, end })
+}
+
+// Reads the head of a class file into the three lists. No count: a step is a field long.
 pub fn read_head(
     file: &[u8],
     names: &mut [u8],
@@ -215,11 +222,7 @@ pub fn read_head(
         let start = field.start;
         at = field.end;
         if let Kind::FileEnd = field.kind {
-            return Err(BadLine {
-                fault: Fault::NoEmptyLine,
-                start,
-                end: at,
-            });
+            return wrong_at(Fault::NoEmptyLine, start, at);
         }
         let turned = field_turn(
             file, field.kind, start, at, line, used, names, commands, classes,
@@ -229,16 +232,8 @@ pub fn read_head(
                 line = next;
                 used = more;
             }
-            Ok(None) => {
-                return Ok((used, at));
-            }
-            Err(fault) => {
-                return Err(BadLine {
-                    fault,
-                    start,
-                    end: at,
-                });
-            }
+            Ok(None) => return Ok((used, at)),
+            Err(fault) => return wrong_at(fault, start, at),
         }
     }
 }

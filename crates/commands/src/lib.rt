@@ -29,13 +29,7 @@ fn clause_for(sheet: Sheet, q: OwnState, command: u8) -> Option<usize>
 }
 
 // The command alone, with what it sends written from the buffer's front on, as far as it reaches.
-fn run_command(
-    sheet: Sheet,
-    crew: Crew,
-    q: OwnState,
-    command: u8,
-    out: &mut [u8],
-) -> Handling
+fn run_command(sheet: Sheet, crew: Crew, q: OwnState, command: u8, out: &mut [u8]) -> Handling
     ensures { RunsCommand sheet.entry.bytes.now crew.entry.list.now q.0 command out.old out.new result }
 {
     let Some(a) = clause_for(sheet, q, command) else {

@@ -7,8 +7,8 @@ ghost use Rattle.configurations.specs.Configurations.{chosen};
 ghost use Rattle.configurations.specs.Cells.{cells_of, AllSmall};
 ghost use Rattle.loops.specs.Chase.{table_next, MovesTo, Tabulates, smallest, returning_state};
 
-use accepted::held::Sheet;
 use crate::cells::{spread, write_list};
+use accepted::held::Sheet;
 use configurations::Cells;
 use model::OwnState;
 use phases::{Turn, turn_from};

@@ -3,7 +3,7 @@ ghost use Rattle.std.specs.Prelude.{◌≡◌, ◌<◌, ◌≤◌};
 ghost use Rattle.node.specs.Probing.{clause_true, first_hit, Probes};
 
 use crate::values::guard_true;
-use accepted::held::{GUARDS, WHENS, Sheet};
+use accepted::held::{GUARDS, Sheet, WHENS};
 use bodies::clauses::{WHEN_CLAUSES, guard_place, referrer_at};
 use model::{OwnState, Probed};
 

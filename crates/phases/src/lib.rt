@@ -38,14 +38,7 @@ fn command_of(sheet: Sheet, q: OwnState, a: u8) -> u8
 }
 
 // A DO runs its clause at once: a move, if that reaches a move_to; else the phase ends there.
-fn run_do(
-    sheet: Sheet,
-    crew: Crew,
-    q: OwnState,
-    a: u8,
-    out: &mut [u8],
-    at: usize,
-) -> Turned
+fn run_do(sheet: Sheet, crew: Crew, q: OwnState, a: u8, out: &mut [u8], at: usize) -> Turned
     requires { (a < action_count (body sheet.bytes.now 1) q.0) × (at < 900000000000) }
     ensures { RunsDo sheet.entry.bytes.now crew.entry.list.now q.0 a out.old out.new at result }
 {
@@ -58,13 +51,7 @@ fn run_do(
 }
 
 // What follows from the probe of state q; what it sends is written from a place on.
-pub fn turn_from(
-    sheet: Sheet,
-    crew: Crew,
-    q: OwnState,
-    out: &mut [u8],
-    at: usize,
-) -> Turned
+pub fn turn_from(sheet: Sheet, crew: Crew, q: OwnState, out: &mut [u8], at: usize) -> Turned
     requires { at < 900000000000 }
     ensures { Turns sheet.entry.bytes.now crew.entry.list.now q.0 out.old out.new at result }
 {
@@ -116,12 +103,7 @@ fn walk(sheet: Sheet, crew: Crew, q: OwnState, out: &mut [u8]) -> Phase
 }
 
 // The when phase from state q: 15 where it settles and its commands need more than the buffer holds, and then nothing is written.
-pub fn when_phase(
-    sheet: Sheet,
-    crew: Crew,
-    q: OwnState,
-    out: &mut [u8],
-) -> Result<Phase, Refusal>
+pub fn when_phase(sheet: Sheet, crew: Crew, q: OwnState, out: &mut [u8]) -> Result<Phase, Refusal>
     requires { q.0 < in_fours (body sheet.bytes.now 1) }
     ensures { Phases sheet.entry.bytes.now crew.entry.list.now q.0 out.old out.new result }
 {

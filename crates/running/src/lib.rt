@@ -130,18 +130,15 @@ fn run_if(
 }
 
 // Runs action clause a of state q: what it sends is written from a place on.
-pub fn run_action(
-    sheet: Sheet,
-    crew: Crew,
-    q: OwnState,
-    a: usize,
-    out: &mut [u8],
-    at: usize,
-) -> Ran
+pub fn run_action(sheet: Sheet, crew: Crew, q: OwnState, a: usize, out: &mut [u8], at: usize) -> Ran
     requires { (a < action_count (body sheet.bytes.now 1) q.0) × (at < 900000000000) }
     ensures { RunsAction sheet.entry.bytes.now crew.entry.list.now q.0 a out.old out.new at result }
 {
     let clauses = sheet.clauses_of(q, ACTION_CLAUSES);
-    let part = statements_of(sheet.body(ACTIONS), sheet.body(STATEMENTS), clauses.first + a);
+    let part = statements_of(
+        sheet.body(ACTIONS),
+        sheet.body(STATEMENTS),
+        clauses.first + a,
+    );
     run_list(sheet.body(GUARDS), crew.sets, crew.list, part, out, at)
 }
