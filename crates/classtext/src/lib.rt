@@ -97,11 +97,7 @@ fn put_whens(
     let n = clauses.count;
     let mut end = at;
     for i in 0..n {
-<<<<<<< HEAD
         end = put_when(sheet, q, first + i, own, lists, out, end);
-=======
-        end = put_when(sheet, q, first + i, own, names, commands, classes, out, end);
->>>>>>> origin/main
     }
     end
 }

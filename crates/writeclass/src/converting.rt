@@ -32,11 +32,7 @@ fn written(sheet: &[u8], own: Own, lists: Lists, text: &mut [u8]) -> Result<usiz
     ensures { Replied sheet.now (named_of own.entry lists.entry) text.old result text.new }
 {
     let sheet = Sheet::judged(sheet)?;
-<<<<<<< HEAD
     write_text(sheet, own, lists, text)
-=======
-    write_text(sheet, own_name, own_states, names, commands, classes, text)
->>>>>>> origin/main
 }
 
 // The class file of the sheet that starts at a place of the file; its head stands between two places.

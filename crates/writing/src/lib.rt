@@ -33,9 +33,5 @@ pub fn write_text(sheet: Sheet, own: Own, lists: Lists, out: &mut [u8]) -> Resul
     if !guards_few(sheet) {
         return Err(Refusal::WrittenGuards);
     }
-<<<<<<< HEAD
     write_within(sheet, own, lists, out)
-=======
-    write_within(sheet, own_name, own_states, names, commands, classes, out)
->>>>>>> origin/main
 }
