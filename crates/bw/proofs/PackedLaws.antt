@@ -5,7 +5,7 @@ use native.Mathlib.Omega.{arith}
 use mathlib.Core.Path.{◌≡◌, sym, ◌∙◌, ap}
 use mathlib.Core.List.{List, [], ◌∷◌, ◌++◌}
 use borrow.Author.Tests.{ne_eqb}
-use Rattle.std.specs.Prelude.{Ok, Err}
+use Rattle.std.specs.Prelude.{Result, Ok, Err, MatchResult}
 use Rattle.model.specs.declared.Misread.TheVariants.{Refused, WrongWord}
 use Rattle.model.specs.Refusals.{number_of}
 use Rattle.model.specs.declared.Refusal.{Refusal}
@@ -43,6 +43,12 @@ word_refused ks x r e ns f = let l = small x in let z : r ≡ word ks (number_of
 -- what is given has the word of its numbers
 pub word_given : (ks : Kinds) (r : ℕ) (ms ns : List ℕ) → r ≡ word ks ms → ns ≡ ms → r ≡ word ks ns
 word_given ks r ms ns e f = e ∙ ap (word ks) (sym f)
+
+-- the word of an answer is that of what it is, refused or given
+module _ {A : Type 0} (P : A → Type 0) (Q : Refusal → Type 0) (W : Result A Refusal → Type 0) where
+  pub word_either : (a : Result A Refusal) → MatchResult a P Q → ((x : A) → P x → W (Ok x)) → ((x : Refusal) → Q x → W (Err x)) → W a
+  word_either (Ok x) h f g = f x h
+  word_either (Err x) h f g = g x h
 
 -- an accepted sheet, and a probe that finds nothing, have the word 0
 pub word_accepted : (ns : List ℕ) → ns ≡ 0 ∷ [] → 0 ≡ word kinds_of_judge ns

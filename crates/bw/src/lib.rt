@@ -120,28 +120,19 @@ pub fn bw_write_class(
 fn pack_judge(answer: Result<(), Refusal>) -> u64
     ensures { result ≡ word kinds_of_judge (judge_numbers answer) }
 {
-    match answer {
-        Err(x) => u64::from(x),
-        Ok(()) => 0,
-    }
+    answer.map_or_else(|x| u64::from(x), |()| 0)
 }
 
 fn pack_probe(answer: Result<Probed, Refusal>) -> u64
     ensures { result ≡ word kinds_of_probe (probe_numbers answer) }
 {
-    match answer {
-        Err(x) => u64::from(x),
-        Ok(p) => pack_probed(p),
-    }
+    answer.map_or_else(|x| u64::from(x), pack_probed)
 }
 
 fn pack_phase(answer: Result<Phase, Refusal>) -> u64
     ensures { result ≡ word kinds_of_phase (phase_numbers answer) }
 {
-    match answer {
-        Err(x) => u64::from(x),
-        Ok(p) => pack_phased(p),
-    }
+    answer.map_or_else(|x| u64::from(x), pack_phased)
 }
 
 // A command has two: that of its handling, and the lent one of the phase behind it, which a refusal leaves as it was.
@@ -160,19 +151,16 @@ fn pack_command(answer: Result<(Handling, Phase), Refusal>, phase: &mut [u64; 1]
 fn pack_loop(answer: Result<Loops, Refusal>) -> u64
     ensures { result ≡ word kinds_of_loop (loop_numbers answer) }
 {
-    match answer {
-        Err(x) => u64::from(x),
-        Ok(l) => pack_loops(l),
-    }
+    answer.map_or_else(|x| u64::from(x), pack_loops)
 }
 
 fn pack_text(answer: Result<usize, Refusal>) -> u64
     ensures { result ≡ word kinds_of_text (write_numbers answer) }
 {
-    match answer {
-        Err(x) => u64::from(x),
-        Ok(length) => (length as u64) % 4294967296 * LENGTH,
-    }
+    answer.map_or_else(
+        |x| u64::from(x),
+        |length| (length as u64) % 4294967296 * LENGTH,
+    )
 }
 
 // What the probe finds.

@@ -1,12 +1,11 @@
 -- `pack_phase`: a refusal is its own word, and what is given has its word.
 -- Assumes nothing.
-use mathlib.Core.Path.{ap}
+use mathlib.Core.Path.{◌≡◌, refl}
+use Rattle.std.proofs.Common.{rules}
 use Rattle.model.specs.Answers.{phase_numbers}
-use Rattle.bw.proofs.PackedLaws.{word_refused, word_given}
+use Rattle.bw.specs.Packed.{word, kinds_of_phase}
+use Rattle.bw.proofs.PackedLaws.{word_refused, word_given, word_either}
 use Rattle.bw.proofs.pack_phase.Goals as goal
 
-pub returns-in-Err : goal.returns-in-Err
-returns-in-Err c = word_refused _ c.in-Err.x _ c.from.ensures _ (ap phase_numbers c.in-Err.is)
-
-pub returns-in-Ok : goal.returns-in-Ok
-returns-in-Ok c = word_given _ _ _ _ c.pack_phased.ensures (ap phase_numbers c.in-Ok.is)
+pub returns : goal.returns
+returns c = word_either _ _ (λ a. c.map_or_else.result ≡ word kinds_of_phase (phase_numbers a)) c.args.answer c.map_or_else.ensures (λ x h. word_given _ _ _ _ (search rules) refl) (λ x h. word_refused _ x _ (search rules) _ refl)
