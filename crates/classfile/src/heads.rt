@@ -82,7 +82,7 @@ fn name_word(used: Used, names: &mut [u8], word: &[u8]) -> Turn
     Ok(Some((Line::Names, more)))
 }
 
-// A word of the commands line.
+// A word of the commands line: as `name_word`, but for the field of `Used` that grows.
 fn command_word(used: Used, commands: &mut [u8], word: &[u8]) -> Turn
     requires { used.commands ≤ length commands.old }
     ensures { Commanded used commands.old word.now result commands.new }

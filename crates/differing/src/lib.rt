@@ -61,6 +61,7 @@ pub fn all_differ(text: &[u8], at: usize, kind: u8, stop: u8) -> bool
 {
     let mut table = empty_table();
     let mut from = at;
+    // No count: a step is a table of names long.
     loop {
         let holding = hold(text, from, kind, stop, &mut table);
         if !held_differ(text, &table, holding.count) {

@@ -17,6 +17,7 @@ pub fn next_named(text: &[u8], at: usize, kind: u8, stop: u8) -> Option<(usize, 
     ensures { NextNamed text.now kind stop at result }
 {
     let mut i = at;
+    // No count: a step is a word long.
     loop {
         let word = next_word(text, i);
         if (word.kind == stop) | (word.kind == 26) {

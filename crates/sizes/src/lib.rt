@@ -100,6 +100,7 @@ pub fn sizes_of(text: &[u8]) -> Sizes
     let mut acting = false;
     let mut ifs = 0;
     let mut at = 0;
+    // No count: a step is a word long.
     loop {
         let word = next_word(text, at);
         let kind = word.kind;

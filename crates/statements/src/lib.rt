@@ -103,6 +103,7 @@ fn kin_ahead(text: &[u8], classes: &[u8], at: usize) -> usize
 {
     let w = next_word(text, at);
     if w.kind == CHILDREN {
+        // 255, the byte of a sheet for all children.
         return 255;
     }
     let name = name_ahead(text, at);

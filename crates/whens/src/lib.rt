@@ -55,7 +55,7 @@ pub fn guards_after(n: usize, kind: u8) -> usize
     }
 }
 
-// The name that is next; an empty one where the next word is none.
+// The name that is next; an empty one where the next word is none, as `NameAhead` says.
 pub fn name_ahead(text: &[u8], at: usize) -> Stretch
     ensures { NameAhead text.now at result.start result.end }
 {
@@ -69,7 +69,7 @@ pub fn name_ahead(text: &[u8], at: usize) -> Stretch
     }
 }
 
-// The number that was found, or 0.
+// The number that was found, or 0, as `number_among` of specs/ says.
 pub fn found_number(found: Option<usize>) -> usize
     ensures { result ≡ found_number found }
 {
