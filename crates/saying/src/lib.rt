@@ -17,11 +17,6 @@ pub enum Said {
     Column,
 }
 
-// The names that the programs use.
-pub const LINE: Said = Said::Line;
-
-pub const COLUMN: Said = Said::Column;
-
 // What is said: one of the program's lines, by its number, or what is wrong with a line of a head.
 #[derive(Clone, Copy)]
 pub enum Message {
