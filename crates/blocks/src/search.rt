@@ -28,7 +28,15 @@ fn block(
     if counted == 0 {
         return Ok(0);
     }
-    fill_words(plan, base, words);
+    fill_words(
+        plan.count,
+        &plan.kinds,
+        &plan.sizes,
+        &plan.masks,
+        &plan.lows,
+        base,
+        words,
+    );
     let mut table = [0u64; 1280];
     sort_lanes(clauses, statements, words, counted, &mut table);
     count_moves(clauses.states, &table, counted)

@@ -35,6 +35,20 @@ pub puts_line : (v : ℕ) {words l m n o : List ℕ} {at i j k : ℕ} → Puts (
 unfolding line
 puts_line v a b c = puts_on (puts_on a b) c
 
+-- a turn of the loop: whoever writes the rest of the list from here on has written the list
+pub record Putting (g part : List ℕ) (v : ℕ) (own : List ℕ) (l : Lists) (before : List ℕ) (at : ℕ) (rest mid : List ℕ) (next : ℕ) : Type 0 where
+  pub short : length rest ≤ length part
+  pub small : next ≤ last_place
+  pub on : (after : List ℕ) (last : ℕ) → PutsPart g rest v own l mid next after last → PutsPart g part v own l before at after last
+
+module _ {g part : List ℕ} {v : ℕ} {own : List ℕ} {l : Lists} {before : List ℕ} {at : ℕ} where
+  pub putting_none : at ≤ last_place → Putting g part v own l before at part before at
+  putting_none k = record { short = omega arith; small = k; on = λ after last h. h }
+
+  pub putting_on : {rest mid after : List ℕ} {next last : ℕ} → Putting g part v own l before at rest mid next → (behind : List ℕ) → length behind ≤ length rest → last ≤ last_place
+      → ((end : List ℕ) (to : ℕ) → PutsPart g behind v own l after last end to → PutsPart g rest v own l mid next end to) → Putting g part v own l before at behind after last
+  putting_on p behind h k f = let s = p.short in record { short = omega arith; small = k; on = λ end to x. p.on end to (f end to x) }
+
 module _ (own : List ℕ) (l : Lists) (g part : List ℕ) (v : ℕ) where
   -- the end of a list
   pub part_none : (before : List ℕ) (at : ℕ) → length before ≤ last_place → at ≤ last_place → Unknown ≡ statement_record part → PutsPart g part v own l before at before at

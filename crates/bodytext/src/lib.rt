@@ -69,7 +69,8 @@ fn put_head(g: &[u8], place: usize, level: usize, lists: Lists, out: &mut [u8], 
     put_bytes(out, d, b"\n")
 }
 
-// A list of statements at a level, one after the other: calls `put_if` on an if, which calls the list on its parts.
+// A list of statements at a level, one after the other: calls `put_if` on an if, which calls the list on its parts. The list is gone through
+// in a loop, so that the stack holds nested ifs alone.
 #[cycle(put_if_put_part)]
 pub fn put_part(
     g: &[u8],
@@ -83,15 +84,22 @@ pub fn put_part(
     requires { Levelled level part.now }
     ensures { PutsPart g.now part.now level own.now (lists_of lists.entry) out.old at out.new result }
 {
-    let front = statement_record(part);
-    let next = match front {
-        StatementRecord::Do(command, pattern) => { put_do(out, at, level, lists, command, pattern) }
-        StatementRecord::MoveTo(to) => put_move(out, at, level, own, to),
-        StatementRecord::If(branch) => put_if(g, branch, part, level, own, lists, out, at),
-        StatementRecord::Unknown => return at,
-    };
-    let rest = behind_statement(front, part);
-    put_part(g, rest, level, own, lists, out, next)
+    let mut rest = part;
+    let mut end = at;
+    // No count: a step is a statement long.
+    loop {
+        let front = statement_record(rest);
+        let next = match front {
+            StatementRecord::Do(command, pattern) => {
+                put_do(out, end, level, lists, command, pattern)
+            }
+            StatementRecord::MoveTo(to) => put_move(out, end, level, own, to),
+            StatementRecord::If(branch) => put_if(g, branch, rest, level, own, lists, out, end),
+            StatementRecord::Unknown => return end,
+        };
+        rest = behind_statement(front, rest);
+        end = next;
+    }
 }
 
 // The if at the front of a list: its line, its then-part, its else-part where there is one, and its end.

@@ -21,14 +21,16 @@ fn first_true(sheet: Sheet, first: usize, n: usize, sets: [u32; 8]) -> Option<us
     requires { (first ≤ 67108864) × (n < 65536) }
     ensures { result ≡ first_hit sheet.entry.bytes.now sets first n }
 {
-    let mut hit = None;
-    for i in 0..n {
-        if clause_holds(sheet, first + i, sets) {
-            hit = Some(i);
-            break;
+    let mut i = 0;
+    loop {
+        if i == n {
+            break None;
         }
+        if clause_holds(sheet, first + i, sets) {
+            break Some(i);
+        }
+        i += 1;
     }
-    hit
 }
 
 // The probe of state q.

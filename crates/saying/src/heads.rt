@@ -33,7 +33,7 @@ fn say_no_name(file: &[u8], start: usize, end: usize) {
 }
 
 // Says what is wrong with a line of the head, behind the word that shows it.
-pub fn say_fault(file: &[u8], fault: Fault, start: usize, end: usize) {
+pub(crate) fn say_fault(file: &[u8], fault: Fault, start: usize, end: usize) {
     match fault {
         Fault::UnknownLine => put(
             b" begins no line of a head; names, commands and class do, and an empty line ends it",

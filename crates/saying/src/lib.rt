@@ -17,6 +17,22 @@ pub enum Said {
     Column,
 }
 
+// As a number: 0, 1, and 2 or more.
+impl From<u8> for Said {
+    ghost use Rattle.std.specs.Prelude.{◌≡◌, cond, eqb};
+    ghost use Rattle.saying.specs.declared.Said.TheVariants.{Nowhere, Line, Column};
+
+    ghost from_gives = { λ n s. s ≡ cond (eqb n 0) Nowhere (cond (eqb n 1) Line Column) };
+
+    fn from(n: u8) -> Said {
+        match n {
+            0 => Said::Nowhere,
+            1 => Said::Line,
+            _ => Said::Column,
+        }
+    }
+}
+
 // What is said: one of the program's lines, by its number, or what is wrong with a line of a head.
 #[derive(Clone, Copy)]
 pub enum Message {
@@ -37,10 +53,10 @@ pub struct Why {
 }
 
 // What is said of a word, or of a place where no word shows it.
-pub fn at_word(message: u8, said: Said, start: usize, end: usize) -> Why {
+pub fn at_word<S: Into<Said>>(message: u8, said: S, start: usize, end: usize) -> Why {
     Why {
         message: Message::Numbered(message),
-        said,
+        said: said.into(),
         start,
         end,
         first: 0,

@@ -2,7 +2,7 @@
 ghost use Rattle.std.specs.Prelude.{◌≡◌, ◌+◌, ◌<◌, ◌≤◌, get_or};
 ghost use Rattle.truths.specs.Words.{word_of, Lent, Filled};
 
-use crate::plans::{BOTH, EITHER, MET, Plan, UNMET, size_at};
+use crate::plans::{BOTH, EITHER, MET, UNMET, size_at};
 use lanes::masks::block_word;
 use lanes::words::word_at;
 
@@ -37,19 +37,19 @@ fn record_word(
 }
 
 // The words of a block, from the last record to the first.
-pub fn fill_words(plan: &Plan, base: u32, words: &mut [u64])
-    requires { Lent plan.now.count plan.now.kinds plan.now.masks plan.now.lows words.old }
-    ensures { Filled 0 plan.now.count plan.now.kinds plan.now.sizes plan.now.masks plan.now.lows base words.old words.new }
+pub fn fill_words(
+    n: usize,
+    kinds: &[u8],
+    sizes: &[u16],
+    masks: &[u32],
+    lows: &[u64],
+    base: u32,
+    words: &mut [u64],
+)
+    requires { Lent n kinds.now masks.now lows.now words.old }
+    ensures { Filled 0 n kinds.now sizes.now masks.now lows.now base words.old words.new }
 {
-    for i in (0..plan.count).rev() {
-        words[i] = record_word(
-            plan.kinds[i],
-            plan.masks[i],
-            plan.lows[i],
-            base,
-            i,
-            &plan.sizes,
-            words,
-        );
+    for i in (0..n).rev() {
+        words[i] = record_word(kinds[i], masks[i], lows[i], base, i, sizes, words);
     }
 }

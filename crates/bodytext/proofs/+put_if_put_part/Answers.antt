@@ -1,14 +1,12 @@
 -- `put_part` writes one statement after the other, and `put_if` an if with its parts: a law for each way out.
 -- With each call the bytes get fewer, but for the call of `put_if`, whose measure is one less on the same bytes.
 -- Assumes nothing.
-use Prim.Native.Nat.{◌≤◌}
 use native.Mathlib.Omega.{arith}
-use lib.ListN.{length}
 use mathlib.Core.Path.{sym, ◌∙◌}
 use Rattle.model.specs.Words.{listed}
 use Rattle.grammar.specs.Words.{spelled}
 use Rattle.bodies.proofs.ReaderLaws.{told, behind_falls, parts_fall}
-use Rattle.bodytext.proofs.PartLaws.{part_none, do_on, move_on, if_on, if_alone, if_both}
+use Rattle.bodytext.proofs.PartLaws.{putting_none, putting_on, part_none, do_on, move_on, if_on, if_alone, if_both}
 use Rattle.bodytext.proofs.+put_if_put_part.Goals.{put_part-in-Do, put_part-in-MoveTo, put_part-in-If}
 use Rattle.bodytext.proofs.+put_if_put_part.Goals as goal
 
@@ -42,33 +40,38 @@ pub put_if-returns : goal.put_if-returns
 unfolding listed spelled
 put_if-returns t c = if_both _ _ _ _ _ _ (sym c.requires.part_value) c.put_head-a.ensures _ c.then_part-first.ensures c.put_part-b.ensures _ c.else_part-second.ensures c.if-second-lt8.false c.put_line-c.ensures c.put_part-d.ensures c.put_line-2.ensures
 
-pub put_part-put_if-next-requires : goal.put_part-put_if-next-requires
-put_part-put_if-next-requires t c = ((omega arith), (c.requires, sym (sym c.in-If.is ∙ c.statement_record-front.ensures)))
-
-pub put_part-put_part-requires : goal.put_part-put_part-requires
-put_part-put_part-requires t c =
-    let n = c.args.part.now in
-    let x = c.behind_statement-rest in
-    let long : 8 ≤ length n = elim c.match-front.branch [
-      | put_part-in-Do w ↦ (told n _ (sym w.in-Do.is ∙ c.statement_record-front.ensures)).0
-      | put_part-in-MoveTo w ↦ (told n _ (sym w.in-MoveTo.is ∙ c.statement_record-front.ensures)).0
-      | put_part-in-If w ↦ (told n _ (sym w.in-If.is ∙ c.statement_record-front.ensures)).0
-    ] in
-    let z = behind_falls c.match-front.front n x.result.now long x.ensures in
-    (omega arith, omega (arith, c.requires))
-
-pub put_part-returns : goal.put_part-returns
-put_part-returns t c = elim c.match-front.branch [
-  | put_part-in-Do w ↦
-      do_on _ _ _ _ _ _ _ (sym w.in-Do.is ∙ c.statement_record-front.ensures) _ (rw (w.out-is, w.next-is) w.put_do-next.ensures)
-      (rw w.front-is at c.behind_statement-rest.ensures) c.put_part.ensures
-  | put_part-in-MoveTo w ↦
-      move_on _ _ _ _ _ _ (sym w.in-MoveTo.is ∙ c.statement_record-front.ensures) _ (rw (w.out-is, w.next-is) w.put_move-next.ensures)
-      (rw w.front-is at c.behind_statement-rest.ensures) c.put_part.ensures
-  | put_part-in-If w ↦
-      if_on _ _ _ _ _ _ (sym w.in-If.is ∙ c.statement_record-front.ensures) _ (rw (w.out-is, w.next-is) w.put_if-next.ensures)
-      (rw w.front-is at c.behind_statement-rest.ensures) c.put_part.ensures
-]
+pub put_part-loop-command-init : goal.put_part-loop-command-init
+put_part-loop-command-init t c = putting_none (omega arith)
 
 pub put_part-returns-in-Unknown : goal.put_part-returns-in-Unknown
-put_part-returns-in-Unknown t c = part_none _ _ _ _ _ _ _ (omega arith) (omega arith) (sym c.in-Unknown.is ∙ c.statement_record-front.ensures)
+put_part-returns-in-Unknown t c =
+    c.loop-command.invariant.on _ _ (part_none _ _ _ _ _ _ _ (omega arith) c.loop-command.invariant.small (sym c.in-Unknown.is ∙ c.statement_record-front.ensures))
+
+pub put_part-loop-command-smaller : goal.put_part-loop-command-smaller
+put_part-loop-command-smaller t c = elim c.match-front.branch [
+  | put_part-in-Do w ↦ behind_falls c.match-front.front _ _ (told c.loop-command.rest.now _ (sym w.in-Do.is ∙ c.statement_record-front.ensures)).0 c.behind_statement-rest.ensures
+  | put_part-in-MoveTo w ↦ behind_falls c.match-front.front _ _ (told c.loop-command.rest.now _ (sym w.in-MoveTo.is ∙ c.statement_record-front.ensures)).0 c.behind_statement-rest.ensures
+  | put_part-in-If w ↦ behind_falls c.match-front.front _ _ (told c.loop-command.rest.now _ (sym w.in-If.is ∙ c.statement_record-front.ensures)).0 c.behind_statement-rest.ensures
+]
+
+pub put_part-loop-command-preserved : goal.put_part-loop-command-preserved
+put_part-loop-command-preserved t c = elim c.match-front.branch [
+  | put_part-in-Do w ↦
+      let e = sym w.in-Do.is ∙ c.statement_record-front.ensures in
+      let f = behind_falls c.match-front.front _ _ (told c.loop-command.rest.now _ e).0 c.behind_statement-rest.ensures in
+      rw (w.out-is, w.next-is)
+      (putting_on c.loop-command.invariant _ (omega (arith, f)) (omega arith)
+      (λ end to h. do_on _ _ _ _ _ _ _ e _ w.put_do-next.ensures (rw w.front-is at c.behind_statement-rest.ensures) h))
+  | put_part-in-MoveTo w ↦
+      let e = sym w.in-MoveTo.is ∙ c.statement_record-front.ensures in
+      let f = behind_falls c.match-front.front _ _ (told c.loop-command.rest.now _ e).0 c.behind_statement-rest.ensures in
+      rw (w.out-is, w.next-is)
+      (putting_on c.loop-command.invariant _ (omega (arith, f)) (omega arith)
+      (λ end to h. move_on _ _ _ _ _ _ e _ w.put_move-next.ensures (rw w.front-is at c.behind_statement-rest.ensures) h))
+  | put_part-in-If w ↦
+      let e = sym w.in-If.is ∙ c.statement_record-front.ensures in
+      let f = behind_falls c.match-front.front _ _ (told c.loop-command.rest.now _ e).0 c.behind_statement-rest.ensures in
+      rw (w.out-is, w.next-is)
+      (putting_on c.loop-command.invariant _ (omega (arith, f)) (omega arith)
+      (λ end to h. if_on _ _ _ _ _ _ e _ w.put_if-next.ensures (rw w.front-is at c.behind_statement-rest.ensures) h))
+]
