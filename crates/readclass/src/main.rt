@@ -7,6 +7,8 @@ mod converting;
 mod messages;
 mod reasons;
 mod sizing;
+#[cfg(test)]
+mod tests;
 
 ghost use Rattle.std.specs.Prelude.{◌≡◌, length};
 
